@@ -1,0 +1,189 @@
+-- Laws of two's complement: encoding and decoding undo each other, for one number and for lists of them.
+-- Assumes nothing.
+use mathlib.Core.Path.{_≡_, refl, sym, ap, _∙_}
+use mathlib.Core.List.{List, [], _∷_, _++_, map, map-append}
+use mathlib.Core.Bool.{true, false}
+use mathlib.Core.Logic.{_⊎_, inl, inr, ⊎-elim}
+use Prim.Native.Nat.{ℕ, zero, suc, _+_, _-_, _*_, _^_, _<_, _≤_, min}
+use native.Mathlib.Decide.{decLt}
+use native.Mathlib.Nat.{lt-of-lt-of-le, two-pow-succ, zero-add}
+use native.Mathlib.Omega.{arith}
+use mir.Facts.{toZ-ofZ}
+use mir.Syntax.{w64}
+use mir.Val.{toZ, ofZ}
+use borrow.Author.Needs.{sfits-of}
+use borrow.Author.Tests.{le-ltb, lt-ltb, ltb-true}
+use lib.IntN.{ℤ, pos, negsuc, _-ℤ_, natAbs}
+use lib.ListN.{length, take, getD, replicate, length-map, length-take, List·getD-map}
+use lib.Pow.{pow-mono, pow-pos}
+use lib.Seq.{getD-take}
+use lib.Signed.{mag, ltZ, nonNeg}
+use Rattle.bitfields.specs.Layout.{Field, Fit, none, more, each, Bytes, bits, write, field, fields, run}
+use Rattle.bitfields.specs.Twos.{encode, decode, complement, Fits, fitsb, AllFit, numbers}
+use Rattle.bitfields.proofs.Reading.{field-lt, fields-replicate, fit-fields, getD-run, length-run, run-suc}
+use Rattle.bitfields.proofs.RoundTrip.{run-after}
+
+-- ---- one number
+
+halves : (w : ℕ) → 0 < w → 2 ^ w ≡ 2 ^ (w - 1) + 2 ^ (w - 1)
+halves w p =
+    let e : suc (w - 1) ≡ w = omega arith in
+    rw e at (two-pow-succ (w - 1))
+
+-- below half of 2 ^ w, and from there on
+pub decode-low : (w x : ℕ) → x < 2 ^ (w - 1) → decode w x ≡ pos x
+unfolding decode
+decode-low w x h = rw (lt-ltb x (2 ^ (w - 1)) h)
+
+pub decode-high : (w x : ℕ) → 2 ^ (w - 1) ≤ x → decode w x ≡ negsuc (2 ^ w - suc x)
+unfolding decode
+decode-high w x h = rw (le-ltb x (2 ^ (w - 1)) h)
+
+pub decode-encode : {w : ℕ} {z : ℤ} → 0 < w → Fits w z → decode w (encode w z) ≡ z
+unfolding encode
+decode-encode {w} {z = pos n} p h = decode-low w n (h .size)
+decode-encode {w} {z = negsuc n} p h =
+    let e = halves w p in
+    let y : 2 ^ w - suc (2 ^ w - suc n) ≡ n = omega arith in
+    decode-high w (2 ^ w - suc n) (omega arith) ∙ ap negsuc y
+
+pub encode-lt : {w : ℕ} {z : ℤ} → 0 < w → Fits w z → encode w z < 2 ^ w
+unfolding encode
+encode-lt {w} {z = pos n} p h = omega (arith, halves w p, h .size)
+encode-lt {w} {z = negsuc n} p h = omega (arith, halves w p, h .size)
+
+lt-or-le : (a b : ℕ) → (a < b) ⊎ (b ≤ a)
+lt-or-le a b = elim (decLt a b) [ yes l ↦ inl l | no g ↦ inr (omega arith) ]
+
+pub encode-decode : (w x : ℕ) → x < 2 ^ w → encode w (decode w x) ≡ x
+unfolding encode
+encode-decode w x h =
+    ⊎-elim
+    (λ (l : x < 2 ^ (w - 1)). rw (decode-low w x l))
+    (λ (g : 2 ^ (w - 1) ≤ x). rw (decode-high w x g) (omega arith))
+    (lt-or-le x (2 ^ (w - 1)))
+
+pub decode-fits : (w x : ℕ) → 0 < w → x < 2 ^ w → Fits w (decode w x)
+decode-fits w x p h =
+    ⊎-elim
+    (λ (l : x < 2 ^ (w - 1)). rw (decode-low w x l) (record { size = l }))
+    (λ (g : 2 ^ (w - 1) ≤ x). rw (decode-high w x g) (record { size = omega (arith, halves w p) }))
+    (lt-or-le x (2 ^ (w - 1)))
+
+-- the test and the fact
+pub fitsb-true : (w : ℕ) (z : ℤ) → fitsb w z ≡ true → Fits w z
+unfolding fitsb
+fitsb-true w z h = record { size = ltb-true (mag z) (2 ^ (w - 1)) h }
+
+pub fits-fitsb : {w : ℕ} {z : ℤ} → Fits w z → fitsb w z ≡ true
+unfolding fitsb
+fits-fitsb {w} {z} h = lt-ltb (mag z) (2 ^ (w - 1)) (h .size)
+
+pub fitsb-false : (w : ℕ) (z : ℤ) → fitsb w z ≡ false → Fits w z → ⊥
+fitsb-false w z e h = let y = fits-fitsb h in let z : _≡_ {A = ℕ} 0 1 = cc in omega arith
+
+-- ---- lists
+
+-- what is known of each number of a list is known of its head and of its rest
+head-fits : {w : ℕ} {z : ℤ} {zs : List ℤ} → AllFit w (z ∷ zs) → Fits w z
+head-fits h = h .each-fits 0 (omega arith)
+
+rest-fits : {w : ℕ} {z : ℤ} {zs : List ℤ} → AllFit w (z ∷ zs) → AllFit w zs
+rest-fits h = record { each-fits = λ i l. h .each-fits (suc i) (omega arith) }
+
+pub fits-take : (n : ℕ) {w : ℕ} {zs : List ℤ} → AllFit w zs → AllFit w (take n zs)
+fits-take n {w} {zs} h = record {
+  each-fits = λ i l.
+      let k : i < min n (length zs) = rw length-take at l in
+      rw (getD-take n zs i (pos 0) (omega arith)) (h .each-fits i (omega arith));
+}
+
+pub decode-encodes : {w : ℕ} {zs : List ℤ} → 0 < w → AllFit w zs → map (decode w) (map (encode w) zs) ≡ zs
+decode-encodes {zs = []} p h = refl
+decode-encodes {zs = z ∷ zs} p h = rw (decode-encode p (head-fits h), decode-encodes p (rest-fits h))
+
+pub encode-decodes : (w : ℕ) (vs : List ℕ) → Fit (each w vs) → map (encode w) (map (decode w) vs) ≡ vs
+encode-decodes w [] h = refl
+encode-decodes w (v ∷ vs) (more h r) = rw (encode-decode w v h, encode-decodes w vs r)
+
+pub fit-encodes : {w : ℕ} {zs : List ℤ} → 0 < w → AllFit w zs → Fit (each w (map (encode w) zs))
+fit-encodes {zs = []} p h = none
+fit-encodes {zs = z ∷ zs} p h = more (encode-lt p (head-fits h)) (fit-encodes p (rest-fits h))
+
+-- ---- the numbers of a byte list
+
+pub length-numbers : (s : List ℕ) (at w n : ℕ) → length (numbers s at w n) ≡ n
+length-numbers s at w n = length-map (run s at w n) (decode w) ∙ length-run s at w n
+
+pub getD-numbers : (s : List ℕ) (at w n i : ℕ) → i < n → getD (numbers s at w n) i (pos 0) ≡ decode w (field s (at + w * i) w)
+getD-numbers s at w n i h =
+    ap (getD (numbers s at w n) i) (sym (decode-low w 0 (pow-pos (w - 1))))
+    ∙ List·getD-map (decode w) (run s at w n) i 0
+    ∙ ap (decode w) (getD-run s at w n i h)
+
+pub numbers-suc : (s : List ℕ) (at w n : ℕ) → numbers s at w (suc n) ≡ numbers s at w n ++ (decode w (field s (at + w * n) w) ∷ [])
+numbers-suc s at w n = ap (map (decode w)) (run-suc s at w n) ∙ map-append _ (run s at w n) _
+
+pub numbers-fit : (s : List ℕ) (at w n : ℕ) → 0 < w → AllFit w (numbers s at w n)
+numbers-fit s at w n p = record {
+  each-fits = λ i l.
+      rw (getD-numbers s at w n i (rw (length-numbers s at w n) at l)) (decode-fits w _ p (field-lt s (at + w * i) w));
+}
+
+pub fields-numbers : (s : List ℕ) (at w n : ℕ) → fields s at (replicate n w) ≡ each w (map (encode w) (numbers s at w n))
+fields-numbers s at w n =
+    rw (encode-decodes w (run s at w n) (rw (fields-replicate s at w n) at (fit-fields s at (replicate n w))))
+    (fields-replicate s at w n)
+
+-- numbers that were written after other fields are read
+pub numbers-after : {fs : List Field} {w : ℕ} {zs : List ℤ} {t : List ℕ} → 0 < w → Fit fs → AllFit w zs → Bytes t
+    → numbers (write (fs ++ each w (map (encode w) zs)) ++ t) (bits fs) w (length zs) ≡ zs
+numbers-after {fs} {w} {zs} {t} p h g k =
+    let e = run-after w (map (encode w) zs) h (fit-encodes p g) k in
+    ap (map (decode w)) (rw (length-map zs (encode w)) at e) ∙ decode-encodes p g
+
+-- ---- by the sign and `mag`, as the code has it
+
+pub minus-complement : (z : ℤ) → negsuc 0 -ℤ z ≡ complement z
+minus-complement (pos zero) = refl
+minus-complement (pos (suc n)) = ap negsuc (ap suc (zero-add n))
+minus-complement (negsuc n) =
+    let e : suc n - 1 ≡ n = omega arith in
+    rw (le-ltb (suc n) 1 (omega arith), e)
+
+pub mag-complement : (z : ℤ) → mag (complement z) ≡ mag z
+mag-complement (pos n) = refl
+mag-complement (negsuc n) = refl
+
+pub natAbs-mag : (z : ℤ) → nonNeg z ≡ true → natAbs z ≡ mag z
+natAbs-mag (pos n) h = refl
+natAbs-mag (negsuc n) h = let e : _≡_ {A = ℕ} 0 1 = cc in absurd (omega arith)
+
+pub negative : (z : ℤ) → ltZ z (pos 0) ≡ true → nonNeg (complement z) ≡ true
+negative (pos n) h = let l = ltb-true n 0 h in absurd (omega arith)
+negative (negsuc n) h = refl
+
+pub not-negative : (z : ℤ) → ltZ z (pos 0) ≡ false → nonNeg z ≡ true
+not-negative (pos n) h = refl
+not-negative (negsuc n) h = let e : _≡_ {A = ℕ} 0 1 = cc in absurd (omega arith)
+
+pub encode-negative : (w : ℕ) (z : ℤ) → ltZ z (pos 0) ≡ true → 2 ^ w - 1 - mag z ≡ encode w z
+unfolding encode
+encode-negative w (pos n) h = let l = ltb-true n 0 h in absurd (omega arith)
+encode-negative w (negsuc n) h = omega arith
+
+pub encode-not-negative : (w : ℕ) (z : ℤ) → ltZ z (pos 0) ≡ false → mag z ≡ encode w z
+unfolding encode
+encode-not-negative w (pos n) h = refl
+encode-not-negative w (negsuc n) h = let e : _≡_ {A = ℕ} 0 1 = cc in absurd (omega arith)
+
+pub mag-le : {w : ℕ} {z : ℤ} → 0 < w → Fits w z → mag z ≤ 2 ^ w - 1
+mag-le {w} p h = omega (arith, halves w p, h .size)
+
+-- a word that is in range is what its bits stand for
+pub plain : (z : ℤ) → mag z < 2 ^ 63 → toZ w64 (ofZ w64 z) ≡ z
+plain z h = toZ-ofZ {w = w64} (sfits-of h)
+
+-- a number of at most 48 bits is in range
+pub in-word : {w : ℕ} {z : ℤ} → w ≤ 48 → Fits w z → mag z < 2 ^ 63
+in-word l h = lt-of-lt-of-le (h .size) (pow-mono {j = 63} (omega arith))

@@ -1,0 +1,15 @@
+-- `bitfields::signed` meets its contract. Assumes nothing.
+use mir.Facts.{toZ-pos}
+use mir.Syntax.{w64}
+use borrow.Author.Needs.{needs}
+use Rattle.bitfields.proofs.signed.Statement.{statement}
+use Rattle.bitfields.proofs.signed.Tie as tie
+
+cast-result : tie.Need-cast-result
+cast-result c = search needs
+
+returns : tie.Need-returns
+returns c = toZ-pos w64 (c .pre)
+
+pub signed-spec : {M : Type 1} → statement M
+signed-spec = tie.close (tie.spec cast-result returns)

@@ -1,0 +1,38 @@
+// Signed integers: the casts that code on them needs, each a function with its clean value as its promise, and in specs/ the laws
+// that proofs about them need. specs/Guide.antt shows the ring normaliser, linear inequalities and machine arithmetic at work, a line each.
+ghost use mathlib.Core.Path.{_≡_};
+ghost use Prim.Native.Nat.{_<_, _^_};
+ghost use lib.IntN.{pos, natAbs};
+ghost use lib.Signed.{_≤ℤ_};
+ghost use Rattle.integers.specs.Absolute.{Within};
+
+// An i8 as an i64.
+pub fn widen(z: i8) -> i64
+    ensures { λ r. ⌜ r ≡ z ⌝ }
+{
+    z as i64
+}
+
+// An i64 that fits an i8, as one.
+pub fn narrow(z: i64) -> i8
+    requires { ⌜ Within z 127 ⌝ }
+    ensures { λ r. ⌜ r ≡ z ⌝ }
+{
+    z as i8
+}
+
+// A natural number as an i64.
+pub fn to_signed(n: u64) -> i64
+    requires { ⌜ n < 2 ^ 63 ⌝ }
+    ensures { λ r. ⌜ r ≡ pos n ⌝ }
+{
+    n as i64
+}
+
+// An i64 that is not negative, as a natural number.
+pub fn to_unsigned(z: i64) -> u64
+    requires { ⌜ pos 0 ≤ℤ z ⌝ }
+    ensures { λ r. ⌜ r ≡ natAbs z ⌝ }
+{
+    z as u64
+}
