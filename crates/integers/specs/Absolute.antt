@@ -1,15 +1,14 @@
 -- The absolute value, `natAbs`, a natural number: the triangle inequality and its like, products, and bounds.
 -- `Within z B` says |z| ≤ B. It is a record, so that a proof need not name z and B: antt never reads a number off `natAbs z ≤ B`.
-use mathlib.Core.Path.{_≡_, refl, sym, ap, subst}
-use mathlib.Core.Bool.{Bool, true, false}
-use mathlib.Core.Logic.{_⊎_, inl, inr}
+use mathlib.Core.Path.{_≡_, refl}
+use mathlib.Core.Bool.{true, false}
 use Prim.Native.Nat.{ℕ, zero, suc, _+_, _*_, _-_, _<_, _≤_}
 use native.Mathlib.Nat.{mul-le-mul}
 use native.Mathlib.Omega.{arith}
 use lib.Dec.{ltb, ltb→lt}
 use lib.IntN.{ℤ, pos, negsuc, negℤ, natAbs, subℕ, _+ℤ_, _-ℤ_, _*ℤ_}
-use lib.Signed.{ltZ, _≤ℤ_, _<ℤ_}
-use Rattle.integers.specs.Parts.{posPart, negPart, cond-both, parts-inj, parts-add, posPart-neg, negPart-neg}
+use lib.Signed.{ltZ, _<ℤ_}
+use Rattle.integers.specs.Parts.{posPart, negPart, cond-both, parts-add, posPart-neg, negPart-neg}
 use Rattle.integers.specs.Order.{zarith}
 
 -- |z| ≤ B
@@ -76,6 +75,11 @@ abs-negative (negsuc n) h = refl
 pub abs-nonnegative : (z : ℤ) → ltZ z (pos 0) ≡ false → z ≡ pos (natAbs z)
 abs-nonnegative (pos n) h = refl
 abs-nonnegative (negsuc n) h = absurd (omega (zarith, h))
+
+-- a number above 0 is its absolute value, which is above 0
+pub positive-abs : {z : ℤ} → pos 0 <ℤ z → pos (natAbs z) ≡ z
+positive-abs {z = pos n} h = refl
+positive-abs {z = negsuc n} h = absurd (h .lt)
 
 pub abs-positive : {z : ℤ} → pos 0 <ℤ z → 0 < natAbs z
 abs-positive {z} h = omega (zarith, abs-parts z)

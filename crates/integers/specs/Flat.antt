@@ -1,7 +1,7 @@
 -- Vectors and matrices in arrays: a vector of 16 numbers, and a matrix of 256 with row i, column j at 16 i + j. Past the order n there are zeros.
 -- And a law for every loop that fills an array: what an array holds after stores at places that differ.
 use mathlib.Core.Path.{_≡_, refl, _∙_}
-use mathlib.Core.Bool.{Bool, true, cond, _&&_}
+use mathlib.Core.Bool.{cond, _&&_}
 use mathlib.Core.List.{List, [], _∷_}
 use mathlib.Core.Logic.{_⊎_, inl, inr}
 use Prim.Native.Nat.{ℕ, zero, suc, _+_, _*_, _/_, _%_, _<_, _≤_}

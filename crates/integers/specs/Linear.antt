@@ -7,14 +7,14 @@
 -- A hypothesis of ℤ goes into `omega`'s list by `use-le`, `use-lt` or `use-eq` with the same unknowns, a bound on an absolute value
 -- by `abs-parts`. Both sides of ≤ℤ and <ℤ stand in parentheses: these bind tighter than +ℤ.
 use mathlib.Core.Path.{_≡_}
-use mathlib.Core.List.{List, [], _∷_}
+use mathlib.Core.List.{List}
 use Prim.Native.Nat.{ℕ, _+_, _*_, _<_, _≤_}
 use native.Mathlib.Omega.{arith}
 use lib.IntN.{ℤ, pos, negsuc, negℤ, natAbs, _+ℤ_, _*ℤ_}
 use lib.Signed.{_≤ℤ_, _<ℤ_}
 use Rattle.integers.specs.Parts.{posPart, negPart, Difference, of-var, of-pos, of-negsuc, of-neg, of-add, of-mul, eq-by}
 use Rattle.integers.specs.Order.{le-by, lt-by, of-le, of-lt, of-eq}
-use Rattle.integers.specs.Absolute.{Within, abs-parts, abs-le}
+use Rattle.integers.specs.Absolute.{Within, abs-le}
 use Rattle.integers.specs.Normal.{At, here, there}
 
 -- z as a difference of natural numbers, in the parts of the unknowns ρ

@@ -8,13 +8,13 @@
 -- A bound has to be a numeral, or `tt` does not compute: weaken a bound with a variable in it first. What a call gave, a loop's
 -- variable or an element of a list goes in by a `let` with `known` or `bounded`. Every rule is over the width: i64 and i8 alike.
 use mathlib.Core.Path.{_≡_, refl, sym, ap, ap₂, _∙_, subst, subst₂}
-use mathlib.Core.Bool.{Bool, true, false}
-use Prim.Native.Nat.{ℕ, zero, suc, _+_, _*_, _<_, _≤_, _^_, _/_, _%_}
+use mathlib.Core.Bool.{Bool, true}
+use Prim.Native.Nat.{ℕ, suc, _+_, _*_, _<_, _≤_, _^_, _/_, _%_}
 use native.Mathlib.Nat.{le-refl, div-le-self, mod-le}
 use native.Mathlib.Omega.{arith}
 use lib.Dec.{T, ltb, ltb→lt, leb, leb→le}
 use lib.IntN.{ℤ, pos, negsuc, negℤ, natAbs, _+ℤ_, _*ℤ_}
-use lib.Signed.{mag, quotZ, remZ, ltZ, leZ, _<ℤ_, _≤ℤ_}
+use lib.Signed.{mag, quotZ, remZ, ltZ, leZ, _<ℤ_}
 use mir.Syntax.{Width, w8, w64}
 use mir.Val.{SFits, hbits, toZ, ofZ}
 use mir.Facts.{toZ-ofZ, toZ-pos}

@@ -14,7 +14,7 @@ use Prim.Native.Nat.{ℕ, suc}
 use lib.Dec.{T, leb, ltb, eqb, eqb→eq}
 use lib.ListN.{getD}
 use native.Mathlib.Omega.{arith}
-use lib.IntN.{ℤ, pos, negsuc, negℤ, natAbs, _+ℤ_, _-ℤ_, _*ℤ_, +ℤ-idl, +ℤ-idr, +ℤ-assoc, negℤ-+ℤ, zero-*ℤ, *ℤ-zero}
+use lib.IntN.{ℤ, pos, negsuc, negℤ, natAbs, _+ℤ_, _*ℤ_, +ℤ-idl, +ℤ-idr, +ℤ-assoc, negℤ-+ℤ, zero-*ℤ, *ℤ-zero}
 use Rattle.integers.specs.Absolute.{abs-zero}
 use Rattle.integers.specs.Ring.{+ℤ-left-comm, *ℤ-assoc, *ℤ-left-comm, *ℤ-distl, *ℤ-distr, *ℤ-negl, one-*ℤ, *ℤ-one, eq-of-sub}
 

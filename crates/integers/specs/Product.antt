@@ -1,9 +1,7 @@
 -- The product of a row with a vector, and the weight of a row. Rows and vectors are functions of a column, of which the columns below n count.
-use mathlib.Core.Path.{_≡_, refl, _∙_}
-use mathlib.Core.List.{List, [], _∷_}
+use mathlib.Core.Path.{_≡_}
+use mathlib.Core.List.{[], _∷_}
 use Prim.Native.Nat.{ℕ, suc, _+_, _*_, _<_, _≤_}
-use native.Mathlib.Nat.{mul-le-mul-right}
-use native.Mathlib.Omega.{arith}
 use lib.IntN.{ℤ, pos, natAbs, _+ℤ_, _*ℤ_, *ℤ-zero}
 use Rattle.integers.specs.Normal.{solve, polys}
 use Rattle.integers.specs.Sum.{sum, total, sum-zero, sum-suc, total-zero, total-suc, sum-lin, sum-ext, total-ext, sum-none, abs-sum-mul, total-le, term-le-total}

@@ -1,7 +1,6 @@
 -- The laws of the commutative ring ℤ that `lib.IntN` does not have (it has `+ℤ-comm`, `+ℤ-assoc`, `*ℤ-comm`, `zero-*ℤ` and their like).
 -- For an identity that is none of these, use `solve` of the module `Normal`.
 use mathlib.Core.Path.{_≡_}
-use Prim.Native.Nat.{ℕ}
 use native.Mathlib.Omega.{arith}
 use lib.IntN.{ℤ, pos, negℤ, _+ℤ_, _-ℤ_, _*ℤ_}
 use Rattle.integers.specs.Parts.{of-var, eq-by, differences}

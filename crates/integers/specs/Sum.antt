@@ -1,7 +1,7 @@
 -- Finite sums over an index below n, of whole numbers (`sum`) and of natural numbers (`total`): linear, by extension, split and swapped;
 -- how large they are; and sums with one or two terms other than 0.
 use mathlib.Core.Path.{_≡_, refl, sym, ap, ap₂, _∙_}
-use mathlib.Core.List.{List, [], _∷_}
+use mathlib.Core.List.{[], _∷_}
 use mathlib.Core.Logic.{_⊎_, inl, inr}
 use Prim.Native.Nat.{ℕ, zero, suc, _+_, _*_, _<_, _≤_}
 use native.Mathlib.Nat.{mul-le-mul-left}

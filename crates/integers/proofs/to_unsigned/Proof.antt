@@ -1,7 +1,4 @@
 -- A number that is not negative is its own absolute value.
-use lib.IntN.{ℤ, natAbs}
-use Prim.Native.Nat.{ℕ}
-use borrow.Author.Needs.{needs}
 use lib.Signed.{yes-nonNeg}
 use mir.Syntax.{w64}
 use mir.Facts.{toZ-ofZ, fits-natAbs}

@@ -1,0 +1,32 @@
+-- By the kind.
+use borrow.Author.Needs.{needs}
+use native.Mathlib.Omega.{arith}
+use Rattle.job.specs.Limits.{system-count, count-most}
+use Rattle.job.proofs.count.Statement.{statement}
+use Rattle.job.proofs.count.Tie as tie
+
+add-result : tie.Need-add-result
+add-result c = search needs
+
+returns : tie.Need-returns
+returns c = rw (c .before .if1 .taken)
+
+mul-result : tie.Need-mul-result
+mul-result c = search needs
+
+returns-2 : tie.Need-returns-2
+returns-2 c = rw (c .before .if2 .taken)
+
+add-result-2 : tie.Need-add-result-2
+add-result-2 c = search needs
+
+mul-result-2 : tie.Need-mul-result-2
+mul-result-2 c = omega (arith, count-most 2 _ (c .before .before .before .before .before .before .pre))
+
+returns-3 : tie.Need-returns-3
+returns-3 c = system-count _ _ (c .before .before .before .before .if1 .left) (c .before .before .if2 .left)
+
+pub count-spec : {M : Type 1} → statement M
+count-spec =
+    tie.close
+    (tie.spec add-result returns mul-result returns-2 add-result-2 mul-result-2 returns-3)

@@ -1,0 +1,72 @@
+-- The header of a job (document 01, "Job frame"), its limits, and how many numbers and bits follow it. Cited by the readers and writers of frames
+-- and traces and by what the evaluator asks of a state.
+use mathlib.Core.Bool.{Bool, _||_}
+use mathlib.Core.List.{List, [], _∷_}
+use Prim.Native.Nat.{ℕ, zero, suc, _+_, _*_, _-_, _/_, _^_}
+use lib.Dec.{ltb, eqb}
+use Rattle.job.specs.Refusal.{Check}
+use Rattle.job.specs.declared.Header.{Header}
+
+-- log2 of the radix: the radix code 0, 1, 2, 3 stands for radix 2, 4, 8, 16
+abbrev pub digit-bits : ℕ → ℕ
+digit-bits code = code + 1
+
+abbrev pub radix : ℕ → ℕ
+radix code = 2 ^ digit-bits code
+
+-- the numbers of a job are in units of 1 / unit
+abbrev pub unit : Header → ℕ
+unit h = 2 ^ h .f
+
+-- the bits of a number
+abbrev pub number-bits : Header → ℕ
+number-bits h = h .f + 2
+
+-- how many numbers a kind has: x and p_0 to p_(n-1); for a rational curve also q_1 to q_(n-1); for a system n rows of n + 1
+abbrev pub count-of : ℕ → ℕ → ℕ
+count-of zero n = n + 1
+count-of (suc zero) n = 2 * n
+count-of (suc (suc k)) n = n * (n + 1)
+
+abbrev pub count : Header → ℕ
+count h = count-of (h .kind) (h .n)
+
+-- ---- the conditions of refusals 2, 3, 4, 5 and 14
+
+-- 2: a kind or a radix code past its table. In a frame the fields have two bits, and only kind 3 is.
+abbrev pub unknown-kind : Header → Bool
+unknown-kind h = ltb 2 (h .kind) || ltb 3 (h .code)
+
+-- 3: p is r/2 to r - 1
+abbrev pub digit-out-of-range : Header → Bool
+digit-out-of-range h = ltb (h .p) (radix (h .code) / 2) || ltb (radix (h .code) - 1) (h .p)
+
+-- 4: f is 4 to 40
+abbrev pub fraction-out-of-range : Header → Bool
+fraction-out-of-range h = ltb (h .f) 4 || ltb 40 (h .f)
+
+-- 5: m is 1 or more, and m × log2(r) at most 60
+abbrev pub steps-out-of-range : Header → Bool
+steps-out-of-range h = eqb (h .m) 0 || ltb 60 (h .m * digit-bits (h .code))
+
+-- 14: n is 1 to 16
+abbrev pub order-out-of-range : Header → Bool
+order-out-of-range h = ltb (h .n) 1 || ltb 16 (h .n)
+
+-- ---- in the orders of document 01
+
+-- 3, 4, 5
+abbrev pub range-checks : Header → List Check
+range-checks h = (3, digit-out-of-range h) ∷ (4, fraction-out-of-range h) ∷ (5, steps-out-of-range h) ∷ []
+
+-- of a header that was read, whose order is 1 to 16 by its width: 2 to 5
+abbrev pub read-checks : Header → List Check
+read-checks h = (2, unknown-kind h) ∷ range-checks h
+
+-- of a header of any numbers: 2, 14, 3, 4, 5
+abbrev pub header-checks : Header → List Check
+header-checks h = (2, unknown-kind h) ∷ (14, order-out-of-range h) ∷ range-checks h
+
+-- the header that goes with a refusal
+abbrev pub zero-header : Header
+zero-header = record { kind = 0; code = 0; p = 0; f = 0; n = 0; m = 0 }

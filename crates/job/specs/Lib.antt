@@ -1,0 +1,5 @@
+pub mod System
+pub mod Refusal
+pub mod Header
+pub mod Rows
+pub mod Limits

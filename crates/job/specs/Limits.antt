@@ -1,0 +1,142 @@
+-- The limits of a header as facts on its numbers, and that they are just what refusals 2, 14, 3, 4 and 5 leave. Cited wherever a proof needs a bound.
+use mathlib.Core.Path.{_≡_, refl}
+use mathlib.Core.Bool.{Bool, true, false, not, _||_}
+use mathlib.Core.Logic.{_↔_, _⊎_, inl, inr}
+use Prim.Native.Nat.{ℕ, zero, suc, _+_, _*_, _-_, _/_, _^_, _<_, _≤_}
+use native.Mathlib.Nat.{div-lt-iff-lt-mul, mul-le-mul}
+use native.Mathlib.Omega.{arith}
+use borrow.Author.Tests.{lt-ltb, le-ltb, ltb-false, eqb-false, ne-eqb}
+use lib.Dec.{T, ltb, eqb}
+use lib.Pow.{pow-mono, pow-pos}
+use Rattle.integers.specs.Maximum.{le-or-lt}
+use Rattle.job.specs.Refusal.{first-refusal, None, none, also, accepted-exactly}
+use Rattle.job.specs.Header.{radix, digit-bits, unit, count-of, unknown-kind, read-checks, header-checks}
+use Rattle.job.specs.declared.Header.{Header}
+
+pub record Limits (h : Header) : Type 0 where
+  pub kind-most : h .kind ≤ 2
+  pub code-most : h .code ≤ 3
+  pub order-least : 1 ≤ h .n
+  pub order-most : h .n ≤ 16
+  pub digit-least : radix (h .code) / 2 ≤ h .p
+  pub digit-most : h .p ≤ radix (h .code) - 1
+  pub fraction-least : 4 ≤ h .f
+  pub fraction-most : h .f ≤ 40
+  pub steps-least : 1 ≤ h .m
+  pub steps-most : h .m * digit-bits (h .code) ≤ 60
+
+-- ---- tests that fail, as facts
+
+neither : (a b : Bool) → T (not (a || b)) → (a ≡ false) × (b ≡ false)
+neither true b t = absurd t
+neither false true t = absurd t
+neither false false t = (refl, refl)
+
+both-fail : (a b : Bool) → a ≡ false → b ≡ false → T (not (a || b))
+both-fail a b e f = rw (e, f) tt
+
+module _ (h : Header) where
+  checks-limits : None (header-checks h) → Limits h
+  checks-limits (also t₂ (also t₁₄ (also t₃ (also t₄ (also t₅ none))))) =
+      let k = neither (ltb 2 (h .kind)) (ltb 3 (h .code)) t₂ in
+      let n = neither (ltb (h .n) 1) (ltb 16 (h .n)) t₁₄ in
+      let p = neither (ltb (h .p) (radix (h .code) / 2)) (ltb (radix (h .code) - 1) (h .p)) t₃ in
+      let f = neither (ltb (h .f) 4) (ltb 40 (h .f)) t₄ in
+      let m = neither (eqb (h .m) 0) (ltb 60 (h .m * digit-bits (h .code))) t₅ in
+      record {
+        kind-most = ltb-false _ _ (k .0);
+        code-most = ltb-false _ _ (k .1);
+        order-least = ltb-false _ _ (n .0);
+        order-most = ltb-false _ _ (n .1);
+        digit-least = ltb-false _ _ (p .0);
+        digit-most = ltb-false _ _ (p .1);
+        fraction-least = ltb-false _ _ (f .0);
+        fraction-most = ltb-false _ _ (f .1);
+        steps-least = above (h .m) (eqb-false (h .m) 0 (m .0));
+        steps-most = ltb-false _ _ (m .1);
+      }
+    where
+      above : (m : ℕ) → (m ≡ 0 → ⊥) → 1 ≤ m
+      above zero g = absurd (g refl)
+      above (suc m) g = omega arith
+
+  limits-checks : Limits h → None (header-checks h)
+  limits-checks l =
+      also (both-fail _ _ (le-ltb 2 (h .kind) (l .kind-most)) (le-ltb 3 (h .code) (l .code-most)))
+      (also (both-fail _ _ (le-ltb (h .n) 1 (l .order-least)) (le-ltb 16 (h .n) (l .order-most)))
+      (also (both-fail _ _ (le-ltb (h .p) (radix (h .code) / 2) (l .digit-least)) (le-ltb (radix (h .code) - 1) (h .p) (l .digit-most)))
+      (also (both-fail _ _ (le-ltb (h .f) 4 (l .fraction-least)) (le-ltb 40 (h .f) (l .fraction-most)))
+      (also (both-fail _ _ (ne-eqb (h .m) 0 (λ e. omega (arith, l .steps-least))) (le-ltb 60 (h .m * digit-bits (h .code)) (l .steps-most))) none))))
+
+  -- refusals 2, 14, 3, 4 and 5 all pass exactly when the limits hold
+  pub limits-exactly : (first-refusal (header-checks h) ≡ 0) ↔ Limits h
+  limits-exactly =
+      ((λ e. checks-limits (accepted-exactly (header-checks h) tt .0 e)), (λ l. accepted-exactly (header-checks h) tt .1 (limits-checks l)))
+
+  -- a header that was read has an order of 1 to 16, and then 2 to 5 are enough
+  pub read-limits : 1 ≤ h .n → h .n ≤ 16 → (first-refusal (read-checks h) ≡ 0) ↔ Limits h
+  read-limits a b = ((λ e. limits-exactly .0 (order e)), (λ l. un-order (limits-exactly .1 l)))
+    where
+      order : first-refusal (read-checks h) ≡ 0 → first-refusal (header-checks h) ≡ 0
+      order e = simp (le-ltb (h .n) 1 a, le-ltb 16 (h .n) b) e
+
+      un-order : first-refusal (header-checks h) ≡ 0 → first-refusal (read-checks h) ≡ 0
+      un-order e = simp (le-ltb (h .n) 1 a, le-ltb 16 (h .n) b) at e
+
+  -- ---- what the limits give as plain numbers
+  module _ (l : Limits h) where
+    pub radix-most : radix (h .code) ≤ 16
+    radix-most = pow-mono {i = digit-bits (h .code)} {j = 4} (omega (arith, l .code-most))
+
+    pub radix-least : 2 ≤ radix (h .code)
+    radix-least = pow-mono {i = 1} {j = digit-bits (h .code)} (omega arith)
+
+    pub digit-positive : 1 ≤ h .p
+    digit-positive = omega (arith, l .digit-least, radix-least)
+
+    pub digit-small : h .p ≤ 15
+    digit-small = omega (arith, l .digit-most, radix-most)
+
+    pub unit-most : unit h ≤ 2 ^ 40
+    unit-most = pow-mono {i = h .f} {j = 40} (l .fraction-most)
+
+    pub unit-least : 16 ≤ unit h
+    unit-least = pow-mono {i = 4} {j = h .f} (l .fraction-least)
+
+    pub steps-small : h .m ≤ 60
+    steps-small = fewer (h .m) (h .code) (l .steps-most)
+      where
+        fewer : (m c : ℕ) → m * (c + 1) ≤ 60 → m ≤ 60
+        fewer m c g = omega arith
+
+-- ---- a test by a quotient: x / b < m is x < m b
+pub ltb-quotient : (x b m : ℕ) → 0 < b → ltb (x / b) m ≡ ltb x (m * b)
+ltb-quotient x b m h = by-case (le-or-lt m (x / b))
+  where
+    by-case : (m ≤ x / b) ⊎ (x / b < m) → ltb (x / b) m ≡ ltb x (m * b)
+    by-case (inr l) = rw (lt-ltb (x / b) m l, lt-ltb x (m * b) (div-lt-iff-lt-mul {k = b} {x = x} {y = m} h .0 l))
+    by-case (inl l) = rw (le-ltb (x / b) m l, le-ltb x (m * b) (not-less (le-or-lt (m * b) x)))
+      where
+        not-less : (m * b ≤ x) ⊎ (x < m * b) → m * b ≤ x
+        not-less (inl g) = g
+        not-less (inr g) = absurd (omega (arith, div-lt-iff-lt-mul {k = b} {x = x} {y = m} h .1 g))
+
+-- a kind and a code of the tables
+pub known-kind : (h : Header) → unknown-kind h ≡ false → (h .kind ≤ 2) × (h .code ≤ 3)
+known-kind h e =
+    let k = neither (ltb 2 (h .kind)) (ltb 3 (h .code)) (rw e tt) in
+    (ltb-false 2 (h .kind) (k .0), ltb-false 3 (h .code) (k .1))
+
+pub radix-some : (code : ℕ) → 1 ≤ radix code
+radix-some code = pow-pos (digit-bits code)
+
+-- ---- how many numbers a system has
+pub system-count : (kind n : ℕ) → (kind ≡ 0 → ⊥) → (kind ≡ 1 → ⊥) → n * (n + 1) ≡ count-of kind n
+system-count zero n a b = absurd (a refl)
+system-count (suc zero) n a b = absurd (b refl)
+system-count (suc (suc k)) n a b = refl
+
+pub count-most : (kind n : ℕ) → n ≤ 16 → count-of kind n ≤ 272
+count-most zero n h = omega arith
+count-most (suc zero) n h = omega arith
+count-most (suc (suc k)) n h = let more : n + 1 ≤ 17 = omega arith in omega (arith, mul-le-mul h more)

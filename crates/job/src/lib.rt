@@ -1,0 +1,158 @@
+// The vocabulary of jobs: the header and its limits, which refusals 2, 3, 4, 5 and 14 look at, and how many numbers a job has. The matrix, the
+// right-hand sides and the weights of rows are defined in specs/System.antt and specs/Rows.antt.
+ghost use mathlib.Core.Path.{_≡_};
+ghost use Prim.Native.Nat.{_≤_};
+ghost use Rattle.job.specs.Header.{
+  radix,
+  count,
+  unknown-kind,
+  digit-out-of-range,
+  fraction-out-of-range,
+  steps-out-of-range,
+  order-out-of-range,
+  range-checks,
+  read-checks,
+  header-checks,
+  zero-header,
+};
+ghost use Rattle.job.specs.Refusal.{first-refusal};
+
+// The header of a job frame, with the order n as a number from 1: kind (0 polynomial, 1 rational, 2 system), radix code, largest
+// digit p, fraction bits f, order n, steps m.
+pub struct Header {
+    pub kind: usize,
+    pub code: usize,
+    pub p: usize,
+    pub f: usize,
+    pub n: usize,
+    pub m: usize,
+}
+
+// A refusal number of document 01, 0 where there is none, and the row that is given with it.
+pub struct Verdict {
+    pub refusal: usize,
+    pub row: usize,
+}
+
+// The header whose fields are all 0, which goes with a refusal.
+pub fn no_header() -> Header
+    ensures { λ r. ⌜ r ≡ zero-header ⌝ }
+{
+    Header {
+        kind: 0,
+        code: 0,
+        p: 0,
+        f: 0,
+        n: 0,
+        m: 0,
+    }
+}
+
+// The radix 2, 4, 8 or 16 of a radix code.
+pub fn radix(code: usize) -> usize
+    requires { ⌜ code ≤ 3 ⌝ }
+    ensures { λ r. ⌜ r ≡ radix code ⌝ }
+{
+    if code == 0 {
+        return 2;
+    }
+    if code == 1 {
+        return 4;
+    }
+    if code == 2 {
+        return 8;
+    }
+    16
+}
+
+// How many numbers follow the header.
+pub fn count(h: Header) -> usize
+    requires { ⌜ h .n ≤ 16 ⌝ }
+    ensures { λ r. ⌜ r ≡ count h ⌝ }
+{
+    if h.kind == 0 {
+        return h.n + 1;
+    }
+    if h.kind == 1 {
+        return 2 * h.n;
+    }
+    h.n * (h.n + 1)
+}
+
+// 2: a kind or a radix code past its table.
+pub fn unknown_kind(h: Header) -> bool
+    ensures { λ r. ⌜ r ≡ unknown-kind h ⌝ }
+{
+    2 < h.kind || 3 < h.code
+}
+
+// 14: n outside 1 to 16.
+pub fn order_out_of_range(h: Header) -> bool
+    ensures { λ r. ⌜ r ≡ order-out-of-range h ⌝ }
+{
+    h.n < 1 || 16 < h.n
+}
+
+// 3: p outside r/2 to r - 1.
+fn digit_out_of_range(h: Header) -> bool
+    requires { ⌜ h .code ≤ 3 ⌝ }
+    ensures { λ r. ⌜ r ≡ digit-out-of-range h ⌝ }
+{
+    let r = radix(h.code);
+    h.p < r / 2 || r - 1 < h.p
+}
+
+// 4: f outside 4 to 40.
+fn fraction_out_of_range(h: Header) -> bool
+    ensures { λ r. ⌜ r ≡ fraction-out-of-range h ⌝ }
+{
+    h.f < 4 || 40 < h.f
+}
+
+// 5: m is 0, or m × log2(r) above 60.
+fn steps_out_of_range(h: Header) -> bool
+    requires { ⌜ h .code ≤ 3 ⌝ }
+    ensures { λ r. ⌜ r ≡ steps-out-of-range h ⌝ }
+{
+    h.m == 0 || 60 / (h.code + 1) < h.m
+}
+
+// Refusals 3, 4 and 5.
+pub fn range_refusal(h: Header) -> usize
+    requires { ⌜ h .code ≤ 3 ⌝ }
+    ensures { λ r. ⌜ r ≡ first-refusal (range-checks h) ⌝ }
+{
+    if digit_out_of_range(h) {
+        return 3;
+    }
+    if fraction_out_of_range(h) {
+        return 4;
+    }
+    if steps_out_of_range(h) {
+        return 5;
+    }
+    0
+}
+
+// Refusals 2 to 5, of a header as a frame or a trace has it.
+pub fn read_refusal(h: Header) -> usize
+    ensures { λ r. ⌜ r ≡ first-refusal (read-checks h) ⌝ }
+{
+    if unknown_kind(h) {
+        return 2;
+    }
+    range_refusal(h)
+}
+
+// Refusals 2, 14, 3, 4 and 5, of a header of any numbers.
+pub fn header_refusal(h: Header) -> usize
+    ensures { λ r. ⌜ r ≡ first-refusal (header-checks h) ⌝ }
+{
+    if unknown_kind(h) {
+        return 2;
+    }
+    if order_out_of_range(h) {
+        return 14;
+    }
+    range_refusal(h)
+}

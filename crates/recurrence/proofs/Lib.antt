@@ -1,0 +1,4 @@
+pub mod Choice
+pub mod RowSum
+pub mod Stepped
+pub mod Turn

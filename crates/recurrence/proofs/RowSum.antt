@@ -1,0 +1,65 @@
+-- The sum of a row as the code makes it, one turn of its loop, and w made of it. Cited by the proofs of `row_sum` and `shifted`.
+use mathlib.Core.Path.{_≡_, refl, sym, _∙_}
+use mathlib.Core.List.{List}
+use Prim.Native.Nat.{ℕ, _+_, _*_, _^_, _<_, _≤_}
+use native.Mathlib.Numerals.{add-one}
+use native.Mathlib.Omega.{arith}
+use lib.IntN.{ℤ, pos, natAbs, _+ℤ_, _*ℤ_}
+use mir.Syntax.{w8, w64}
+use mir.Val.{SFits, toZ, ofZ}
+use Rattle.integers.specs.Absolute.{Within}
+use Rattle.integers.specs.Machine.{Machine, known, bounded, cast, machs, machine-fits, machine-eq}
+use Rattle.integers.specs.Product.{dot, weight, dot-suc, abs-dot, weight-le, entry-le-weight}
+use Rattle.integers.specs.Flat.{at, entry}
+use Rattle.recurrence.specs.Flat.{Summable}
+
+module _ {g d : List ℤ} {i n : ℕ} (h : Summable g i n d) where
+  entry-small : (j : ℕ) → j < n → natAbs (entry g i j) ≤ 2 ^ 40
+  entry-small j l = omega (arith, entry-le-weight n (entry g i) j l, h .light)
+
+  part-small : (j : ℕ) → j ≤ n → natAbs (dot j (entry g i) (at d)) ≤ 2 ^ 48
+  part-small j l =
+      let w : weight j (entry g i) ≤ j * 2 ^ 40 = weight-le j (entry g i) (2 ^ 40) (λ k m. entry-small k (omega arith)) in
+      omega (arith, abs-dot j (entry g i) (at d) 15 (λ k m. h .digits k (omega arith)), h .order)
+
+  -- `s` are the bits of the sum over the columns below j, `x` is what `widen` gave of the digit
+  module _ (j : ℕ) (l : j < n) (s : ℕ) (es : toZ w64 s ≡ dot j (entry g i) (at d)) (x : ℤ) (ex : x ≡ toZ w8 (ofZ w8 (at d j))) where
+    abbrev the-entry : Machine (entry g i j)
+    the-entry = bounded (entry g i j) (2 ^ 40) (entry-small j l)
+
+    digit-is : x ≡ at d j
+    digit-is = let a = bounded (at d j) 15 (h .digits j l) in ex ∙ machine-eq (search machs depth 9) tt refl
+
+    abbrev the-digit : Machine x
+    the-digit = known x (at d j) 15 digit-is (h .digits j l)
+
+    abbrev the-sum : Machine (toZ w64 s)
+    the-sum = known (toZ w64 s) (dot j (entry g i) (at d)) (2 ^ 48) es (part-small j (omega arith))
+
+    pub product-fits : SFits w64 (toZ w64 (ofZ w64 (entry g i j)) *ℤ toZ w64 (ofZ w64 x))
+    product-fits = let a = the-entry in let b = the-digit in machine-fits (search machs depth 9) tt
+
+    pub sum-fits : SFits w64 (toZ w64 s +ℤ toZ w64 (ofZ w64 (toZ w64 (ofZ w64 (entry g i j)) *ℤ toZ w64 (ofZ w64 x))))
+    sum-fits = let a = the-entry in let b = the-digit in let c = the-sum in machine-fits (search machs depth 9) tt
+
+    pub sum-next : toZ w64 (ofZ w64 (toZ w64 s +ℤ toZ w64 (ofZ w64 (toZ w64 (ofZ w64 (entry g i j)) *ℤ toZ w64 (ofZ w64 x))))) ≡ dot (j + 1) (entry g i) (at d)
+    sum-next =
+        let a = the-entry in let b = the-digit in let c = the-sum in
+        machine-eq (search machs depth 9) tt (rw add-one (sym (dot-suc j (entry g i) (at d))))
+
+  -- `s` is what `row_sum` gave
+  module _ (z : ℤ) (r : ℕ) (hz : Within z (2 ^ 40)) (hr : r ≤ 16) (s : ℤ) (es : s ≡ dot n (entry g i) (at d)) where
+    abbrev the-row : Machine s
+    the-row = known s (dot n (entry g i) (at d)) (2 ^ 48) es (part-small n (omega arith))
+
+    abbrev the-radix : Machine (toZ w64 r)
+    the-radix = cast w64 r 16 hr
+
+    pub added-fits : SFits w64 (toZ w64 (ofZ w64 z) +ℤ toZ w64 (ofZ w64 s))
+    added-fits = let a = the-row in machine-fits (search machs depth 9) tt
+
+    pub shifted-fits : SFits w64 (toZ w64 r *ℤ toZ w64 (ofZ w64 (toZ w64 (ofZ w64 z) +ℤ toZ w64 (ofZ w64 s))))
+    shifted-fits = let a = the-row in let b = the-radix in machine-fits (search machs depth 9) tt
+
+    pub shifted-is : toZ w64 (ofZ w64 (toZ w64 r *ℤ toZ w64 (ofZ w64 (toZ w64 (ofZ w64 z) +ℤ toZ w64 (ofZ w64 s))))) ≡ pos r *ℤ (z +ℤ dot n (entry g i) (at d))
+    shifted-is = let a = the-row in let b = the-radix in machine-eq (search machs depth 9) tt refl

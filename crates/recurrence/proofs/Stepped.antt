@@ -1,0 +1,125 @@
+-- One step on lists: which row holds what, that the limits hold again, and that steps from the right-hand sides are the recurrence's.
+-- Cited by the proof of `step`, and by the crates that make several steps.
+use mathlib.Core.Path.{_≡_, sym, ap, subst, _∙_}
+use mathlib.Core.List.{List}
+use mathlib.Core.Logic.{_⊎_, inl, inr}
+use Prim.Native.Nat.{ℕ, suc, _+_, _*_, _<_, _≤_}
+use native.Mathlib.Numerals.{add-one}
+use native.Mathlib.Omega.{arith}
+use lib.IntN.{ℤ, pos, natAbs, _-ℤ_, _*ℤ_}
+use lib.ListN.{length, set, replicate, getD-replicate, List·getD-eq-default}
+use Rattle.integers.specs.Maximum.{le-or-lt}
+use Rattle.integers.specs.Product.{dot-ext}
+use Rattle.recurrence.specs.Selection.{select, select-selects}
+use Rattle.recurrence.specs.Recurrence.{shifted, next-digit, next-residual, residual, digit}
+use Rattle.recurrence.specs.Theorems.{held-next}
+use Rattle.integers.specs.Flat.{at, entry, stores-zero, stores-suc, length-stores, stores-other, stores-at}
+use Rattle.recurrence.specs.Flat.{filled, stepped-digits, stepped-residuals, After, Ready}
+
+-- ---- a list filled in the rows below n
+
+module _ (f : ℕ → ℤ) (v : List ℤ) where
+  pub filled-zero : filled f v 0 ≡ v
+  filled-zero = stores-zero v (λ i. i) f
+
+  -- a store in the next row
+  pub filled-next : (i : ℕ) (l : List ℤ) (x : ℤ) → l ≡ filled f v i → x ≡ f i → set l i x ≡ filled f v (i + 1)
+  filled-next i l x e h = rw (add-one, e, h) (sym (stores-suc v (λ i. i) f i))
+
+  pub length-filled : (n : ℕ) → length (filled f v n) ≡ length v
+  length-filled n = length-stores v (λ i. i) f n
+
+  -- the rows from n on keep their values
+  pub filled-past : (n i : ℕ) → n ≤ i → at (filled f v n) i ≡ at v i
+  filled-past n i h = stores-other v (λ i. i) f n i (λ t l e. omega arith)
+
+  -- the rows below n hold f's values
+  pub filled-row : (n i : ℕ) → i < n → i < length v → at (filled f v n) i ≡ f i
+  filled-row n i h l = stores-at v (λ i. i) f n i h l (λ t a b e. omega arith)
+
+  -- what holds of f's values and of 0 holds of every row below n, whatever the length
+  pub filled-each : (Q : ℤ → Type 0) (n : ℕ) → Q (pos 0) → ((i : ℕ) → i < n → Q (f i)) → (i : ℕ) → i < n → Q (at (filled f v n) i)
+  filled-each Q n z h i l = by-case (le-or-lt (length v) i)
+    where
+      by-case : (length v ≤ i) ⊎ (i < length v) → Q (at (filled f v n) i)
+      by-case (inl m) = subst Q (sym (List·getD-eq-default (filled f v n) (pos 0) (omega (arith, length-filled n)))) z
+      by-case (inr m) = subst Q (sym (filled-row n i l m)) (h i l)
+
+-- ---- a step
+
+module _ (n r p u : ℕ) (g z d : List ℤ) where
+  pub length-stepped-digits : length (stepped-digits n r p u g z d) ≡ 16
+  unfolding stepped-digits
+  length-stepped-digits = length-filled (next-digit n r (select p u) (entry g) (at z) (at d)) (replicate 16 (pos 0)) n
+
+  pub length-stepped-residuals : length (stepped-residuals n r p u g z d) ≡ length z
+  unfolding stepped-residuals
+  length-stepped-residuals = length-filled (next-residual n r u (select p u) (entry g) (at z) (at d)) z n
+
+  -- in the rows below n
+  pub stepped-digit : (i : ℕ) → i < n → i < 16 → at (stepped-digits n r p u g z d) i ≡ next-digit n r (select p u) (entry g) (at z) (at d) i
+  unfolding stepped-digits
+  stepped-digit i l h = filled-row (next-digit n r (select p u) (entry g) (at z) (at d)) (replicate 16 (pos 0)) n i l h
+
+  pub stepped-residual : (i : ℕ) → i < n → i < length z → at (stepped-residuals n r p u g z d) i ≡ next-residual n r u (select p u) (entry g) (at z) (at d) i
+  unfolding stepped-residuals
+  stepped-residual i l h = filled-row (next-residual n r u (select p u) (entry g) (at z) (at d)) z n i l h
+
+  -- past them
+  pub stepped-digit-past : (i : ℕ) → n ≤ i → at (stepped-digits n r p u g z d) i ≡ pos 0
+  unfolding stepped-digits
+  stepped-digit-past i h = filled-past (next-digit n r (select p u) (entry g) (at z) (at d)) (replicate 16 (pos 0)) n i h ∙ zeros (le-or-lt 16 i)
+    where
+      zeros : (16 ≤ i) ⊎ (i < 16) → at (replicate 16 (pos 0)) i ≡ pos 0
+      zeros (inl m) = List·getD-eq-default (replicate 16 (pos 0)) (pos 0) m
+      zeros (inr m) = getD-replicate 16 i (pos 0) (pos 0) m
+
+  pub stepped-residual-past : (i : ℕ) → n ≤ i → at (stepped-residuals n r p u g z d) i ≡ at z i
+  unfolding stepped-residuals
+  stepped-residual-past i h = filled-past (next-residual n r u (select p u) (entry g) (at z) (at d)) z n i h
+
+-- a step leaves what can make the next one; z′ and d′ are what it gave
+pub ready-next : {n r p u : ℕ} {g z d z′ d′ : List ℤ} → 0 < u → Ready n r p u g z d →
+    z′ ≡ stepped-residuals n r p u g z d → d′ ≡ stepped-digits n r p u g z d → Ready n r p u g z′ d′
+unfolding stepped-residuals stepped-digits
+ready-next {n} {r} {p} {u} {g} {z} {d} hu h ez ed =
+    let k = held-next (select-selects p u hu) (h .light) (h .held) in
+    rw (ez, ed)
+    (record {
+      order = h .order;
+      radix = h .radix;
+      largest = h .largest;
+      light = h .light;
+      held = record {
+        z-small = filled-each (next-residual n r u (select p u) (entry g) (at z) (at d)) z (λ x. 2 * natAbs x ≤ 1 * u) n (omega arith) (k .z-small);
+        d-small = filled-each (next-digit n r (select p u) (entry g) (at z) (at d)) (replicate 16 (pos 0)) (λ x. natAbs x ≤ p) n (omega arith) (k .d-small);
+      };
+    })
+
+-- ---- steps from the right-hand sides
+
+shifted-ext : (n r : ℕ) (G H : ℕ → ℕ → ℤ) (z y d e : ℕ → ℤ) (i : ℕ) → ((j : ℕ) → j < n → G i j ≡ H i j) → z i ≡ y i → ((j : ℕ) → j < n → d j ≡ e j) →
+    shifted n r G z d i ≡ shifted n r H y e i
+unfolding shifted
+shifted-ext n r G H z y d e i same hz hd = rw (hz, dot-ext n (G i) (H i) d e same hd)
+
+-- before the first step
+pub after-first : {n : ℕ} (r p u : ℕ) (G : ℕ → ℕ → ℤ) {B : ℕ → ℤ} {z d : List ℤ} →
+    ((i : ℕ) → i < n → at z i ≡ B i) → ((i : ℕ) → i < n → at d i ≡ pos 0) → After n r p u G B 0 z d
+unfolding residual
+after-first r p u G hz hd = record { residuals = hz; digits = hd }
+
+-- a step on lists is a step of the system whose matrix g holds; z′ and d′ are what it gave
+pub after-next : {n r p u k : ℕ} {G : ℕ → ℕ → ℤ} {B : ℕ → ℤ} {z d z′ d′ : List ℤ} (g : List ℤ) → n ≤ 16 → n ≤ length z →
+    ((i j : ℕ) → i < n → j < n → entry g i j ≡ G i j) → After n r p u G B k z d →
+    z′ ≡ stepped-residuals n r p u g z d → d′ ≡ stepped-digits n r p u g z d → After n r p u G B (suc k) z′ d′
+unfolding residual next-residual next-digit
+after-next {n} {r} {p} {u} {k} {G} {B} {z} {d} g order room same h ez ed =
+    rw (ez, ed)
+    (record {
+      residuals = λ i l. stepped-residual n r p u g z d i l (omega arith) ∙ ap (λ (w : ℤ). w -ℤ pos u *ℤ select p u w) (w-is i l);
+      digits = λ i l. stepped-digit n r p u g z d i l (omega arith) ∙ ap (λ (w : ℤ). select p u w) (w-is i l);
+    })
+  where
+    w-is : (i : ℕ) → i < n → shifted n r (entry g) (at z) (at d) i ≡ shifted n r G (residual n r u (select p u) G B k) (digit n r u (select p u) G B k) i
+    w-is i l = shifted-ext n r (entry g) G (at z) _ (at d) _ i (λ j m. same i j l m) (h .residuals i l) (h .digits)

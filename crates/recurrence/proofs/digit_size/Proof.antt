@@ -1,0 +1,71 @@
+-- The sum and the product fit, and what is divided has the digit for its quotient, raised or not.
+use mathlib.Core.Logic.{⊎-elim}
+use Prim.Native.Nat.{_^_}
+use lib.IntN.{natAbs}
+use mir.Syntax.{w64}
+use mir.Val.{toZ}
+use borrow.Author.Needs.{needs}
+use Rattle.recurrence.specs.Selection.{digit-size}
+use Rattle.recurrence.proofs.Choice.{Given, Raised, top-fits, up-fits, raised, unraised, quotient-fits, quotient-read}
+use Rattle.recurrence.proofs.digit_size.Statement.{statement}
+use Rattle.recurrence.proofs.digit_size.Tie as tie
+
+magnitude-requires : tie.Need-magnitude-requires
+magnitude-requires c κs = search needs
+
+half-unit-requires : tie.Need-half-unit-requires
+half-unit-requires c κs = search needs
+
+cast-top : tie.Need-cast-top
+cast-top c = search needs
+
+unit-requires : tie.Need-unit-requires
+unit-requires c κs = search needs
+
+given : (c : tie.After-unit) → let s = c .before .before .before in
+    Given (s .args .w) (s .args .f) (s .args .p) (c .before .before .magnitude .result) (c .before .half-unit .result) (c .unit .result)
+given c =
+    let s = c .before .before .before in
+    record {
+      bits = s .pre .0;
+      largest = s .pre .1;
+      within = s .pre .2;
+      size-is = c .before .before .magnitude .ensures;
+      half-is = c .before .half-unit .ensures;
+      one-is = c .unit .ensures;
+    }
+
+mul-top : tie.Need-mul-top
+mul-top c = top-fits (given c)
+
+add-up : tie.Need-add-up
+add-up c = up-fits (given (c .before))
+
+unit-requires-2 : tie.Need-unit-requires-2
+unit-requires-2 c κs = search needs
+
+-- where the two ways have met
+divided : (c : tie.Joined1) → let s = c .before .before .before .before in
+    Raised (2 ^ (s .args .f)) (digit-size (s .args .p) (2 ^ (s .args .f)) (natAbs (s .args .w))) (toZ w64 (c .if1 .up))
+divided c =
+    ⊎-elim (λ h. raised (given (c .before)) (c .if1 .up) (h .0 .taken) (h .1)) (λ h. unraised (given (c .before)) (c .if1 .up) (h .0 .left) (h .1)) (c .if1 .came)
+
+div-result : tie.Need-div-result
+div-result c = let s = c .before .before .before .before .before in quotient-fits (s .args .f) _ (s .pre .0) _ _ (c .unit2 .ensures) (divided (c .before))
+
+returns : tie.Need-returns
+returns c = let s = c .before .before .before .before .before in quotient-read (s .args .f) _ (s .pre .0) _ _ (c .unit2 .ensures) (divided (c .before))
+
+pub digit-size-spec : {M : Type 1} → statement M
+digit-size-spec =
+    tie.close
+    (tie.spec
+    magnitude-requires
+    half-unit-requires
+    cast-top
+    unit-requires
+    mul-top
+    add-up
+    unit-requires-2
+    div-result
+    returns)

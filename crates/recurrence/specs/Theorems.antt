@@ -1,0 +1,104 @@
+-- The theorems on the recurrence, over any radix r, largest digit p, unit u, matrix G, right-hand sides B and residual bound c / e (1/2 in
+-- document 01). `identity` and `distance` hold of every run, whatever rule chose its digits. Cited by the claims about whole jobs.
+use mathlib.Core.Path.{_≡_, _∙_}
+use Prim.Native.Nat.{ℕ, zero, suc, _+_, _*_, _-_, _<_, _≤_, _^_}
+use native.Mathlib.Nat.{pow-zero, pow-suc, mul-le-mul-left, le-of-mul-le-mul-left}
+use native.Mathlib.Omega.{arith}
+use lib.IntN.{ℤ, pos, negℤ, natAbs, _+ℤ_, _-ℤ_, _*ℤ_}
+use Rattle.integers.specs.Absolute.{abs-add, abs-mul}
+use Rattle.integers.specs.Product.{dot, weight, dot-lin, dot-none, abs-dot}
+use Rattle.integers.specs.Maximum.{Largest, largest}
+use Rattle.recurrence.specs.System.{Solves}
+use Rattle.recurrence.specs.Selection.{Selects, select, select-selects}
+use Rattle.recurrence.specs.Recurrence.{shifted, next-digit, next-residual, residual, digit, reading, Run, steps-run}
+use Rattle.recurrence.specs.Light.{Light, LightRows, Held}
+use Rattle.recurrence.specs.Row.{identity-first, identity-next, one-more, grown, error-lin, error-row, error-abs, farthest}
+
+-- r^k (b - A y) = z + G d, where A is the identity less G and y are the readings after k steps over r^k: exact, for any digits whatever.
+pub identity : {n r u : ℕ} {G : ℕ → ℕ → ℤ} {B : ℕ → ℤ} {z d y : ℕ → ℕ → ℤ} → Run n r u G B z d y →
+    (k i : ℕ) → i < n → pos (r ^ k) *ℤ B i -ℤ (pos u *ℤ y k i -ℤ dot n (G i) (y k)) ≡ z k i +ℤ dot n (G i) (d k)
+unfolding shifted
+identity {n} {r} {u} {G} {B} {z} {d} {y} run zero i l =
+    rw (pow-zero r, run .y-first i l, run .z-first i l, dot-none n (G i) (y 0) (run .y-first), dot-none n (G i) (d 0) (run .d-first))
+    (identity-first (B i) (pos u))
+identity {n} {r} {u} {G} {B} {z} {d} {y} run (suc k) i l =
+    let s : dot n (G i) (y (suc k)) ≡ pos r *ℤ dot n (G i) (y k) +ℤ pos 1 *ℤ dot n (G i) (d (suc k)) =
+    dot-lin n (G i) (y k) (d (suc k)) (y (suc k)) (pos r) (pos 1) (λ j m. run .y-next k j m ∙ one-more (pos r) (y k j) (d (suc k) j)) in
+    rw (pow-suc r k, run .y-next k i l, run .z-next k i l, s)
+    (identity-next (pos r) (pos u) (pos (r ^ k)) (B i) (y k i) (dot n (G i) (y k)) (dot n (G i) (d k)) (z k i) (d (suc k) i) (dot n (G i) (d (suc k)))
+    (identity run k i l))
+
+-- Where the rows are light and the bounds are kept, |w| is at most p + c / e units.
+pub bound : {n r p u c e : ℕ} {G : ℕ → ℕ → ℤ} {z d : ℕ → ℤ} → LightRows n r p u c e G → Held n p u c e z d →
+    (i : ℕ) → i < n → e * natAbs (shifted n r G z d i) ≤ (e * p + c) * u
+unfolding shifted
+bound {n} {r} {p} {u} {c} {e} {G} {z} {d} light h i l =
+    rw (abs-mul (pos r) (z i +ℤ dot n (G i) d))
+    (grown r p u c e (weight n (G i)) (natAbs (z i)) (natAbs (dot n (G i) d)) (natAbs (z i +ℤ dot n (G i) d))
+    (light .rows i l) (h .z-small i l) (abs-dot n (G i) d p (h .d-small)) (abs-add (z i) (dot n (G i) d)))
+
+-- A step by any rule that selects keeps the bounds,
+pub held-next : {n r p u c e : ℕ} {sel : ℤ → ℤ} {G : ℕ → ℕ → ℤ} {z d : ℕ → ℤ} → Selects p u c e sel → LightRows n r p u c e G →
+    Held n p u c e z d → Held n p u c e (next-residual n r u sel G z d) (next-digit n r sel G z d)
+unfolding next-residual next-digit
+held-next {n} {r} {G} {z} {d} rule light h =
+    record {
+      z-small = λ i l. rule .left (shifted n r G z d i) (bound light h i l);
+      d-small = λ i l. rule .small (shifted n r G z d i) (bound light h i l);
+    }
+
+-- so from small right-hand sides they are kept after every step.
+pub held : {n r p u c e : ℕ} {sel : ℤ → ℤ} {G : ℕ → ℕ → ℤ} (B : ℕ → ℤ) → Selects p u c e sel → LightRows n r p u c e G →
+    ((i : ℕ) → i < n → e * natAbs (B i) ≤ c * u) →
+    (k : ℕ) → Held n p u c e (residual n r u sel G B k) (digit n r u sel G B k)
+unfolding residual
+held B rule light small zero = record { z-small = small; d-small = λ i l. omega arith }
+held B rule light small (suc k) = held-next rule light (held B rule light small k)
+
+-- the error of the readings after k steps, times D r^k, is a vector that solves the same rows with other right-hand sides
+module _ {n r u D : ℕ} {G : ℕ → ℕ → ℤ} {B N : ℕ → ℤ} {z d y : ℕ → ℕ → ℤ} (run : Run n r u G B z d y) (sol : Solves n u D G B N) (k : ℕ) where
+  abbrev error : ℕ → ℤ
+  error i = N i *ℤ pos (r ^ k) -ℤ pos D *ℤ y k i
+
+  error-is : (i : ℕ) → i < n → pos u *ℤ error i -ℤ dot n (G i) error ≡ pos D *ℤ (z k i +ℤ dot n (G i) (d k))
+  error-is i l =
+      rw (dot-lin n (G i) N (y k) error (pos (r ^ k)) (negℤ (pos D)) (λ j m. error-lin (N j) (pos (r ^ k)) (pos D) (y k j)))
+      (error-row (pos u) (pos (r ^ k)) (pos D) (N i) (dot n (G i) N) (B i) (y k i) (dot n (G i) (y k)) (z k i +ℤ dot n (G i) (d k))
+      (sol .solves i l) (identity run k i l))
+
+  error-largest : {p c e : ℕ} → 1 < r → 0 < c → 0 < e → 0 < u → LightRows n r p u c e G → Held n p u c e (z k) (d k) →
+      (m : Largest n (λ i. natAbs (error i))) → (r - 1) * natAbs (error (m .top)) ≤ p * D
+  error-largest {p} {c} {e} hr hc he hu light h m =
+      let i : ℕ = m .top in
+      let s : natAbs (dot n (G i) error) ≤ weight n (G i) * natAbs (error i) = abs-dot n (G i) error (natAbs (error i)) (m .most) in
+      let f : u * natAbs (error i) ≤ natAbs (dot n (G i) error) + D * natAbs (z k i +ℤ dot n (G i) (d k)) =
+      error-abs u D (error i) (dot n (G i) error) (z k i +ℤ dot n (G i) (d k)) (error-is i (m .inside)) in
+      farthest r p u c e (weight n (G i)) (natAbs (error i)) D (natAbs (z k i)) (natAbs (dot n (G i) (d k))) hr hc he hu
+      (light .rows i (m .inside)) (h .z-small i (m .inside)) (abs-dot n (G i) (d k) p (h .d-small))
+      (omega (arith, mul-le-mul-left D (abs-add (z k i) (dot n (G i) (d k)))))
+
+-- |N / D - y| ≤ p / (r - 1) / r^k in every row, y being the readings after k steps over r^k: for every N and D that solve the rows, and for any
+-- digits whatever that are within p at step k with residuals of at most c / e. p / (r - 1) / r^k is what a digit p in every place after the
+-- k-th comes to.
+pub distance : {n r p u c e D : ℕ} {G : ℕ → ℕ → ℤ} {B N : ℕ → ℤ} {z d y : ℕ → ℕ → ℤ} → 1 < r → 0 < c → 0 < e → 0 < u →
+    LightRows n r p u c e G → Run n r u G B z d y → Solves n u D G B N →
+    (k : ℕ) → Held n p u c e (z k) (d k) →
+    (i : ℕ) → i < n → (r - 1) * natAbs (N i *ℤ pos (r ^ k) -ℤ pos D *ℤ y k i) ≤ p * D
+distance {n} {r} hr hc he hu light run sol k h i l =
+    let m = largest n (λ j. natAbs (error run sol k j)) (omega arith) in
+    omega (arith, error-largest run sol k hr hc he hu light h m, mul-le-mul-left (r - 1) (m .most i l))
+
+-- The same of the steps by `select`, with residuals of at most half a unit.
+pub select-distance : {n r p u D : ℕ} {G : ℕ → ℕ → ℤ} {B N : ℕ → ℤ} → 1 < r → 0 < u →
+    LightRows n r p u 1 2 G → ((i : ℕ) → i < n → 2 * natAbs (B i) ≤ u) → Solves n u D G B N →
+    (k i : ℕ) → i < n → (r - 1) * natAbs (N i *ℤ pos (r ^ k) -ℤ pos D *ℤ reading r (digit n r u (select p u) G B) k i) ≤ p * D
+select-distance {n} {r} {p} {u} {G} {B} hr hu light small sol k i l =
+    distance hr (omega arith) (omega arith) hu light (steps-run n r u (select p u) G B) sol k
+    (held B (select-selects p u hu) light (λ j m. omega (arith, small j m)) k) i l
+
+-- Light rows are short: at residuals of at most 1/2 and digits below r, a row weighs at most a quarter of a unit.
+pub short : (r p u S : ℕ) → 2 ≤ r → 1 ≤ p → p ≤ r - 1 → Light r p u 1 2 S → 4 * S ≤ u
+short r p u S hr hp h l =
+    let f : u * suc p ≤ u * r = mul-le-mul-left u (omega arith) in
+    let g : p * S * 2 ≤ p * S * r = mul-le-mul-left (p * S) hr in
+    le-of-mul-le-mul-left {k = p} (omega (arith, l .light)) hp
