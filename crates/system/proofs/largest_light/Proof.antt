@@ -1,0 +1,62 @@
+-- Every number on the way is small, by the limits.
+use mathlib.Core.Path.{refl, _∙_}
+use native.Mathlib.Omega.{arith}
+use borrow.Author.Needs.{needs}
+use mir.Syntax.{w64}
+use mir.Facts.{toZ-ofZ}
+use Rattle.system.specs.Light.{Sizes, sizes, dividend-most, divisor-most, divisor-least, quotient-most}
+use Rattle.system.proofs.largest_light.Statement.{statement}
+use Rattle.system.proofs.largest_light.Tie as tie
+
+radix-requires : tie.Need-radix-requires
+radix-requires c κs = search needs
+
+unit-requires : tie.Need-unit-requires
+unit-requires c κs = search needs
+
+-- what the calls gave is in size
+sized : (c : tie.After-unit) → Sizes (c .before .radix .result) (c .before .before .args .h .p) (c .unit .result)
+sized c = rw (c .before .radix .ensures, c .unit .ensures) (sizes (c .before .before .pre))
+
+mul-to-signed : tie.Need-mul-to-signed
+mul-to-signed c = omega (arith, sized c .p-most)
+
+sub-to-signed : tie.Need-sub-to-signed
+sub-to-signed c = omega (arith, sized c .r-least)
+
+sub-to-signed-2 : tie.Need-sub-to-signed-2
+sub-to-signed-2 c = search needs
+
+mul-to-signed-2 : tie.Need-mul-to-signed-2
+mul-to-signed-2 c = omega (arith, dividend-most _ _ _ (sized c))
+
+mul-to-signed-3 : tie.Need-mul-to-signed-3
+mul-to-signed-3 c = omega (arith, sized c .r-most)
+
+mul-to-signed-4 : tie.Need-mul-to-signed-4
+mul-to-signed-4 c = omega (arith, divisor-most _ _ _ (sized c))
+
+div-to-signed : tie.Need-div-to-signed
+div-to-signed c = divisor-least _ _ _ (sized c)
+
+to-signed-requires : tie.Need-to-signed-requires
+to-signed-requires c κs = omega (arith, quotient-most _ _ _ (sized c))
+
+returns : tie.Need-returns
+returns c = toZ-ofZ {w = w64} (record { sfits = c .to-signed .ok }) ∙ c .to-signed .ensures ∙ rw (c .before .before .radix .ensures, c .before .unit .ensures) refl
+
+pub largest-light-spec : {M : Type 1} → statement M
+largest-light-spec =
+    tie.close
+    (tie.spec
+    radix-requires
+    unit-requires
+    mul-to-signed
+    sub-to-signed
+    sub-to-signed-2
+    mul-to-signed-2
+    mul-to-signed-3
+    mul-to-signed-4
+    div-to-signed
+    to-signed-requires
+    returns)

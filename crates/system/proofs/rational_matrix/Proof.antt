@@ -1,0 +1,109 @@
+-- After i rows, the second to the i-th hold their coefficients.
+use mathlib.Core.Path.{_≡_, sym}
+use Prim.Native.Nat.{_+_, _-_, _≤_, _^_}
+use native.Mathlib.Omega.{arith}
+use lib.IntN.{negℤ}
+use Rattle.integers.specs.Absolute.{Within}
+use Rattle.integers.specs.Machine.{machs, machine-fits}
+use Rattle.integers.specs.Flat.{stores, stores-zero}
+use Rattle.job.specs.System.{argument, denominator}
+use Rattle.system.specs.Numbers.{argument-read, negated-is}
+use Rattle.system.specs.Setup.{stores-more, denominator-place, denominator-placed}
+use Rattle.system.proofs.rational_matrix.Statement.{statement}
+use Rattle.system.proofs.rational_matrix.Tie as tie
+
+abbrev Inv-loop : tie.InvT-loop
+Inv-loop n v g₀ i₀ g i = (i ≤ n - 1) × (g ≡ stores g₀ denominator-place (λ t. negℤ (denominator n v (t + 1))) i)
+
+abbrev μ-loop : tie.MeasureT-loop
+μ-loop n v g₀ i₀ g i = n - i
+
+-- the coefficient that a turn reads
+coefficient : (c : tie.After-g Inv-loop μ-loop)
+    → Within (denominator (c .before .before .before .before .before .args .n) (c .before .before .before .before .before .args .v .now) (c .before .before .loop .i + 1)) (2 ^ 41)
+coefficient c =
+    let st = c .before .before .before .before .before in
+    st .pre .2 .small (st .args .n + (c .before .before .loop .i + 1)) (omega arith)
+
+shared-slice-copy-out-polynomial-matrix :
+    tie.Need-shared-slice-copy-out-polynomial-matrix Inv-loop μ-loop
+shared-slice-copy-out-polynomial-matrix c = omega (arith, c .pre .2 .enough)
+
+polynomial-matrix-requires : tie.Need-polynomial-matrix-requires Inv-loop μ-loop
+polynomial-matrix-requires c κs = c .before .pre .1
+
+loop-holds : tie.Need-loop-holds Inv-loop μ-loop
+loop-holds c = (omega arith, sym (stores-zero _ _ _))
+
+add-loop : tie.Need-add-loop Inv-loop μ-loop
+add-loop c = omega arith
+
+add-g : tie.Need-add-g Inv-loop μ-loop
+add-g c = omega arith
+
+add-g-2 : tie.Need-add-g-2 Inv-loop μ-loop
+add-g-2 c = omega arith
+
+mul-g : tie.Need-mul-g Inv-loop μ-loop
+mul-g c = omega arith
+
+shared-slice-copy-out-g : tie.Need-shared-slice-copy-out-g Inv-loop μ-loop
+shared-slice-copy-out-g c = omega (arith, c .before .before .before .before .pre .2 .enough)
+
+sub-g : tie.Need-sub-g Inv-loop μ-loop
+sub-g c = let w = coefficient c in machine-fits (search machs depth 9) tt
+
+add-g-3 : tie.Need-add-g-3 Inv-loop μ-loop
+add-g-3 c = omega arith
+
+mul-g-2 : tie.Need-mul-g-2 Inv-loop μ-loop
+mul-g-2 c = omega arith
+
+mul-g-3 : tie.Need-mul-g-3 Inv-loop μ-loop
+mul-g-3 c = omega arith
+
+array-set-from-g : tie.Need-array-set-from-g Inv-loop μ-loop
+array-set-from-g c = omega arith
+
+add-i : tie.Need-add-i Inv-loop μ-loop
+add-i c = omega arith
+
+loop-less : tie.Need-loop-less Inv-loop μ-loop
+loop-less c = omega arith
+
+loop-again : tie.Need-loop-again Inv-loop μ-loop
+loop-again c =
+    let l = c .before .before .loop in
+    (omega arith, stores-more _ denominator-place _ (l .i) (l .g) _ (l .inv .1) (negated-is (coefficient c)))
+
+returns : tie.Need-returns Inv-loop μ-loop
+returns c =
+    let st = c .before .before .before .before in
+    let l = c .before .loop in
+    denominator-placed (st .args .n) (st .pre .1) (argument (st .args .v .now)) (denominator (st .args .n) (st .args .v .now)) _ (l .g) (l .i)
+    (argument-read (st .args .n) (st .args .v .now) _ (c .before .before .before .polynomial-matrix-arg .given) (c .before .before .polynomial-matrix .ensures))
+    (l .inv .1) (omega arith)
+
+pub rational-matrix-spec : {M : Type 1} → statement M
+rational-matrix-spec =
+    tie.close
+    (tie.spec
+    Inv-loop
+    μ-loop
+    shared-slice-copy-out-polynomial-matrix
+    polynomial-matrix-requires
+    loop-holds
+    add-loop
+    add-g
+    add-g-2
+    mul-g
+    shared-slice-copy-out-g
+    sub-g
+    add-g-3
+    mul-g-2
+    mul-g-3
+    array-set-from-g
+    add-i
+    loop-less
+    loop-again
+    returns)

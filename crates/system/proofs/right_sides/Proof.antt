@@ -1,0 +1,85 @@
+-- After i rows the first i places hold their right sides.
+use mathlib.Core.Path.{_≡_, sym, _∙_}
+use Prim.Native.Nat.{_-_, _≤_, _<_}
+use native.Mathlib.Omega.{arith}
+use lib.IntN.{pos}
+use lib.ListN.{replicate}
+use Rattle.integers.specs.Flat.{stores, stores-zero}
+use Rattle.job.specs.Header.{count-of}
+use Rattle.job.specs.Limits.{count-most}
+use Rattle.job.specs.System.{right-side}
+use Rattle.system.specs.Numbers.{right-read, right-place-most}
+use Rattle.system.specs.Setup.{stores-more, vector-filled}
+use Rattle.system.proofs.right_sides.Statement.{statement}
+use Rattle.system.proofs.right_sides.Tie as tie
+
+abbrev Inv-loop : tie.InvT-loop
+Inv-loop kind n v z₀ i₀ z i = (i ≤ n) × (z ≡ stores (replicate 16 (pos 0)) (λ t. t) (right-side kind n v) i)
+
+abbrev μ-loop : tie.MeasureT-loop
+μ-loop kind n v z₀ i₀ z i = n - i
+
+-- the place that the call gave is that of a number
+placed : (c : tie.After-right-place Inv-loop μ-loop) → c .right-place .result < count-of (c .before .before .before .args .kind) (c .before .before .before .args .n)
+placed c =
+    let st = c .before .before .before in
+    rw (c .right-place .ensures) (right-place-most (st .args .kind) (st .args .n) (c .before .before .loop .i) (c .before .loop-test .taken))
+
+loop-holds : tie.Need-loop-holds Inv-loop μ-loop
+loop-holds c = (omega arith, sym (stores-zero _ _ _))
+
+right-place-requires : tie.Need-right-place-requires Inv-loop μ-loop
+right-place-requires c κs = (omega arith, omega arith)
+
+mul-z : tie.Need-mul-z Inv-loop μ-loop
+mul-z c =
+    let st = c .before .before .before in
+    omega (arith, placed c, count-most (st .args .kind) (st .args .n) (st .pre .0))
+
+shared-slice-copy-out-z : tie.Need-shared-slice-copy-out-z Inv-loop μ-loop
+shared-slice-copy-out-z c = omega (arith, placed c, c .before .before .before .pre .1)
+
+mul-z-2 : tie.Need-mul-z-2 Inv-loop μ-loop
+mul-z-2 c = omega arith
+
+array-set-from-z : tie.Need-array-set-from-z Inv-loop μ-loop
+array-set-from-z c = omega arith
+
+add-i : tie.Need-add-i Inv-loop μ-loop
+add-i c = omega arith
+
+loop-less : tie.Need-loop-less Inv-loop μ-loop
+loop-less c = omega arith
+
+loop-again : tie.Need-loop-again Inv-loop μ-loop
+loop-again c =
+    let st = c .before .before .before .before in
+    let l = c .before .before .before .loop in (
+      omega arith,
+      stores-more _ (λ t. t) (right-side (st .args .kind) (st .args .n) (st .args .v .now)) (l .i) (l .z) _ (l .inv .1)
+          (right-read (st .args .kind) (st .args .n) (st .args .v .now) (l .i) (c .before .right-place .result) (c .z .given) (c .before .right-place .ensures)),
+    )
+
+returns : tie.Need-returns Inv-loop μ-loop
+returns c =
+    let st = c .before .before in
+    let l = c .before .loop in
+    let e : l .i ≡ st .args .n = omega arith in
+    (rw e at (l .inv .1)) ∙ vector-filled (st .args .n) _ (st .pre .0)
+
+pub right-sides-spec : {M : Type 1} → statement M
+right-sides-spec =
+    tie.close
+    (tie.spec
+    Inv-loop
+    μ-loop
+    loop-holds
+    right-place-requires
+    mul-z
+    shared-slice-copy-out-z
+    mul-z-2
+    array-set-from-z
+    add-i
+    loop-less
+    loop-again
+    returns)

@@ -1,0 +1,226 @@
+// Setting up the system of a job from its numbers, and weighing it (document 01, "The system"; refusals 8 and 9). A matrix is an array of 256
+// with row i, column j at 16 * i + j, a vector an array of 16. Rows and columns count from 0 here, and only row numbers that are given
+// count from 1. Past the order n an array holds zeros.
+ghost use mathlib.Core.Path.{_≡_};
+ghost use mathlib.Core.Bool.{cond};
+ghost use Prim.Native.Nat.{_+_, _*_, _/_, _<_, _≤_, _^_};
+ghost use lib.Dec.{ltb, eqb};
+ghost use lib.IntN.{pos, natAbs, _-ℤ_};
+ghost use lib.ListN.{length};
+ghost use lib.Signed.{_≤ℤ_};
+ghost use Rattle.integers.specs.Absolute.{Within};
+ghost use Rattle.integers.specs.Flat.{at, entry, flat-vector, flat-matrix, stores};
+ghost use Rattle.job.specs.Header.{count-of};
+ghost use Rattle.job.specs.Limits.{Limits};
+ghost use Rattle.job.specs.Rows.{first-row, largest-light, system-verdict};
+ghost use Rattle.job.specs.System.{argument, denominator, no-denominator, curve-entry, system-entry, matrix, right-side};
+ghost use Rattle.system.specs.Numbers.{Numbers, right-place};
+ghost use Rattle.system.specs.Weighing.{too-heavy, too-large};
+use job::Header;
+use job::Verdict;
+
+// The unit 2^f, in which the numbers of a job are given.
+fn unit(f: usize) -> u64
+    requires { ⌜ f ≤ 40 ⌝ }
+    ensures { λ r. ⌜ r ≡ 2 ^ f ⌝ }
+{
+    1u64 << (f as u64)
+}
+
+// The matrix of a polynomial: x in the column after the diagonal, for which the last row has no column.
+fn polynomial_matrix(n: usize, x: i64) -> [i64; 256]
+    requires { ⌜ n ≤ 16 ⌝ }
+    ensures { λ r. ⌜ r ≡ flat-matrix n (curve-entry x no-denominator) ⌝ }
+{
+    let mut g = [0i64; 256];
+    let mut i: usize = 0;
+    while i + 1 < n {
+        g[16 * i + (i + 1)] = x;
+        i += 1;
+    }
+    g
+}
+
+// The matrix of a rational curve: besides x, -q in the first column of every row but the first.
+fn rational_matrix(n: usize, v: &[i64]) -> [i64; 256]
+    requires { ⌜ (1 ≤ n) × (n ≤ 16) × Numbers (2 * n) (now v) ⌝ }
+    ensures { λ r. ⌜ r ≡ flat-matrix n (curve-entry (argument (now (v .entry))) (denominator n (now (v .entry)))) ⌝ }
+{
+    let mut g = polynomial_matrix(n, v[0]);
+    let mut i: usize = 0;
+    while i + 1 < n {
+        g[16 * (i + 1)] = 0 - v[n + (i + 1)];
+        i += 1;
+    }
+    g
+}
+
+// An entry of the identity less A, in units of 1 / u.
+fn system_entry(u: u64, i: usize, j: usize, a: i64) -> i64
+    requires { ⌜ (u ≤ 2 ^ 40) × Within a (2 ^ 41) ⌝ }
+    ensures { λ r. ⌜ r ≡ cond (eqb i j) (pos u) (pos 0) -ℤ a ⌝ }
+{
+    if i == j {
+        integers::to_signed(u) - a
+    } else {
+        0 - a
+    }
+}
+
+// Stores row i of the matrix of a system.
+fn place_row(g: &mut [i64; 256], i: usize, n: usize, u: u64, v: &[i64])
+    requires { ⌜ (i < n) × (n ≤ 16) × (u ≤ 2 ^ 40) × Numbers (n * (n + 1)) (now v) ⌝ }
+    ensures { λ _. ⌜ now (g .exit) ≡ stores (now (g .entry)) (λ j. 16 * i + j) (system-entry u n (now (v .entry)) i) n ⌝ }
+{
+    let mut j: usize = 0;
+    while j < n {
+        g[16 * i + j] = system_entry(u, i, j, v[i * (n + 1) + j]);
+        j += 1;
+    }
+}
+
+// The matrix of a system.
+fn system_matrix(n: usize, u: u64, v: &[i64]) -> [i64; 256]
+    requires { ⌜ (n ≤ 16) × (u ≤ 2 ^ 40) × Numbers (n * (n + 1)) (now v) ⌝ }
+    ensures { λ r. ⌜ r ≡ flat-matrix n (system-entry u n (now (v .entry))) ⌝ }
+{
+    let mut g = [0i64; 256];
+    let mut i: usize = 0;
+    while i < n {
+        place_row(&mut g, i, n, u, v);
+        i += 1;
+    }
+    g
+}
+
+// The matrix G of a job with n rows, from the numbers as they are sent.
+pub fn matrix(kind: usize, n: usize, f: usize, v: &[i64]) -> [i64; 256]
+    requires { ⌜ (1 ≤ n) × (n ≤ 16) × (f ≤ 40) × Numbers (count-of kind n) (now v) ⌝ }
+    ensures { λ r. ⌜ r ≡ flat-matrix n (matrix kind n (2 ^ f) (now (v .entry))) ⌝ }
+{
+    if kind == 0 {
+        return polynomial_matrix(n, v[0]);
+    }
+    if kind == 1 {
+        return rational_matrix(n, v);
+    }
+    system_matrix(n, unit(f), v)
+}
+
+// Where among the numbers the right side of row i stands.
+fn right_place(kind: usize, n: usize, i: usize) -> usize
+    requires { ⌜ (i < n) × (n ≤ 16) ⌝ }
+    ensures { λ r. ⌜ r ≡ right-place kind n i ⌝ }
+{
+    if kind < 2 { 1 + i } else { i * (n + 1) + n }
+}
+
+// The right sides of a job with n rows, from the numbers as they are sent.
+pub fn right_sides(kind: usize, n: usize, v: &[i64]) -> [i64; 16]
+    requires { ⌜ (n ≤ 16) × (count-of kind n ≤ length (now v)) ⌝ }
+    ensures { λ r. ⌜ r ≡ flat-vector n (right-side kind n (now (v .entry))) ⌝ }
+{
+    let mut z = [0i64; 16];
+    let mut i: usize = 0;
+    while i < n {
+        z[i] = v[right_place(kind, n, i)];
+        i += 1;
+    }
+    z
+}
+
+// The largest right side that is small enough.
+fn half_unit(f: usize) -> i64
+    requires { ⌜ f ≤ 40 ⌝ }
+    ensures { λ r. ⌜ r ≡ pos (2 ^ f / 2) ⌝ }
+{
+    integers::to_signed(unit(f) / 2)
+}
+
+// The largest weight that is light enough.
+pub fn largest_light(h: Header) -> i64
+    requires { ⌜ Limits h ⌝ }
+    ensures { λ r. ⌜ r ≡ pos (largest-light h) ⌝ }
+{
+    let r = job::radix(h.code) as u64;
+    let p = h.p as u64;
+    integers::to_signed(unit(h.f) * (2 * p - (r - 1)) / (2 * r * p))
+}
+
+// The room that is left after an entry e: its magnitude is taken off, for any i64, since the room before it is not negative.
+fn room_after(room: i64, e: i64) -> i64
+    requires { ⌜ pos 0 ≤ℤ room ⌝ }
+    ensures { λ r. ⌜ r ≡ room -ℤ pos (natAbs e) ⌝ }
+{
+    if e < 0 { room + e } else { room - e }
+}
+
+// The number, from 1, of the first row that weighs more than the limit; 0 where none does. Each row starts with the limit as its room.
+// A weight only grows from entry to entry, so a row is too heavy as soon as its room falls below 0.
+fn first_heavy(g: &[i64; 256], n: usize, limit: i64) -> usize
+    requires { ⌜ (n ≤ 16) × (pos 0 ≤ℤ limit) ⌝ }
+    ensures { λ r. ⌜ r ≡ first-row n (too-heavy limit n (now (g .entry))) ⌝ }
+{
+    let mut heavy: usize = 0;
+    let mut i: usize = 0;
+    'rows: while i < n {
+        let mut room = limit;
+        let mut j: usize = 0;
+        while j < n {
+            room = room_after(room, g[16 * i + j]);
+            if room < 0 {
+                heavy = i + 1;
+                break 'rows;
+            }
+            j += 1;
+        }
+        i += 1;
+    }
+    heavy
+}
+
+// Whether the magnitude of e is above the bound, for any i64.
+fn above(e: i64, bound: i64) -> bool
+    requires { ⌜ pos 0 ≤ℤ bound ⌝ }
+    ensures { λ r. ⌜ r ≡ ltb (natAbs bound) (natAbs e) ⌝ }
+{
+    if bound < e { true } else { e < 0 - bound }
+}
+
+// The number, from 1, of the first row whose right side is of a magnitude above half; 0 where none is.
+fn first_large(z: &[i64; 16], n: usize, half: i64) -> usize
+    requires { ⌜ (n ≤ 16) × (pos 0 ≤ℤ half) ⌝ }
+    ensures { λ r. ⌜ r ≡ first-row n (too-large half (now (z .entry))) ⌝ }
+{
+    let mut i: usize = 0;
+    while i < n {
+        if above(z[i], half) {
+            return i + 1;
+        }
+        i += 1;
+    }
+    0
+}
+
+// Refusals 8 and 9, with the row that is given: all weights are looked at before any right side.
+pub fn verdict<'a>(g: &'a [i64; 256], z: &'a [i64; 16], h: Header) -> Verdict
+    requires { ⌜ Limits h ⌝ }
+    ensures { λ r. ⌜ r ≡ system-verdict h (entry (now (g .entry))) (at (now (z .entry))) ⌝ }
+{
+    let n = h.n;
+    let heavy = first_heavy(g, n, largest_light(h));
+    if 0 < heavy {
+        return Verdict {
+            refusal: 8,
+            row: heavy,
+        };
+    }
+    let large = first_large(z, n, half_unit(h.f));
+    if 0 < large {
+        return Verdict {
+            refusal: 9,
+            row: large,
+        };
+    }
+    Verdict { refusal: 0, row: 0 }
+}
