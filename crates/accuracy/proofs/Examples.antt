@@ -1,0 +1,91 @@
+-- Demand 3 at work on document 01's cases A and B: from the statement alone, the exact value of row 1 and how near the last reading lies to it.
+use mathlib.Core.Path.{_≡_, refl, _∙_}
+use mathlib.Core.List.{List, [], _∷_}
+use Prim.Native.Nat.{ℕ, _<_, _≤_}
+use native.Mathlib.Omega.{arith}
+use lib.IntN.{ℤ, pos, natAbs, _-ℤ_, _*ℤ_}
+use Rattle.integers.specs.Flat.{list-from, stores}
+use Rattle.integers.specs.Normal.{solve, polys}
+use Rattle.integers.specs.Order.{zarith}
+use Rattle.integers.specs.Power.{cancel}
+use Rattle.integers.specs.Product.{dot, weight}
+use Rattle.integers.specs.Sum.{sum, total}
+use Rattle.bitfields.specs.Layout.{field, number, bits, run}
+use Rattle.bitfields.specs.Twos.{decode}
+use Rattle.job.specs.Rows.{first-row-from}
+use Rattle.job.specs.System.{curve-entry, matrix, right-side}
+use Rattle.frame.specs.Frame.{frame-checks, frame-refusal}
+use Rattle.recurrence.specs.Flat.{stepped-digits, stepped-residuals}
+use Rattle.recurrence.specs.Recurrence.{shifted, next-digit, next-residual, reading}
+use Rattle.recurrence.specs.Selection.{select, digit-size}
+use Rattle.curve.specs.Curve.{numerator-value, denominator-value}
+use Rattle.state.specs.Digits.{beyond}
+use Rattle.state.specs.State.{fresh, breaks-limit}
+use Rattle.evaluator.specs.Evaluator.{loaded, advanced, advance-checks, steps-made, steps, one-step}
+use Rattle.accuracy.specs.Calls as calls
+use Rattle.accuracy.specs.Calls.{Call, advance}
+use Rattle.accuracy.specs.Accuracy.{ExactValues, after, Y}
+use Rattle.accuracy.proofs.Demand3.{accurate}
+
+-- ---- A: polynomial, x 4, p 3 and 8, over 16; four steps
+
+unfoldable pub frame-A : List ℕ
+frame-A = 1 ∷ 16 ∷ 68 ∷ 16 ∷ 50 ∷ 0 ∷ []
+
+unfoldable pub calls-A : List Call
+calls-A = advance 1 ∷ advance 0 ∷ advance 9 ∷ []
+
+accepted-A : frame-refusal frame-A ≡ 0
+unfolding frame-A frame-checks field number bits run decode curve-entry matrix right-side first-row-from weight total
+accepted-A = refl
+
+reading-A : Y frame-A calls-A 4 0 ≡ pos 5
+unfolding frame-A calls-A calls.run loaded advanced advance-checks steps-made steps one-step fresh breaks-limit beyond frame-checks field number bits run decode curve-entry matrix right-side first-row-from weight total dot sum list-from stores stepped-digits stepped-residuals shifted next-digit next-residual select digit-size reading
+reading-A = refl
+
+-- row 1's exact value is 5/16, in every solution, and the reading 5 after 4 steps is that value exactly
+pub case-A : (N : ℕ → ℤ) (D : ℕ) → ExactValues frame-A N D → pos 16 *ℤ N 0 ≡ pos D *ℤ Y frame-A calls-A 4 0
+unfolding frame-A field number bits run decode numerator-value denominator-value sum
+case-A N D exact = rw reading-A (cancel {d = pos 16} (omega zarith) (first (N 0) (pos D) (value N D exact)))
+  where
+    value : (N : ℕ → ℤ) (D : ℕ) → ExactValues frame-A N D → pos 256 *ℤ N 0 ≡ pos 80 *ℤ pos D
+    value N D exact = accurate frame-A accepted-A calls-A .curve (omega arith) .value N D exact
+
+    first : (x d : ℤ) → pos 256 *ℤ x ≡ pos 80 *ℤ d → pos 16 *ℤ (pos 16 *ℤ x) ≡ pos 16 *ℤ (d *ℤ pos 5)
+    first x d e =
+        solve (x ∷ []) (search polys depth 12) (search polys depth 12) tt ∙ e ∙ solve (d ∷ []) (search polys depth 12) (search polys depth 12) tt
+
+-- ---- B: rational, x 2, p 8 and 0, q_1 4, over 16; five steps
+
+unfoldable pub frame-B : List ℕ
+frame-B = 65 ∷ 16 ∷ 69 ∷ 8 ∷ 128 ∷ 4 ∷ []
+
+unfoldable pub calls-B : List Call
+calls-B = advance 3 ∷ advance 2 ∷ advance 7 ∷ []
+
+accepted-B : frame-refusal frame-B ≡ 0
+unfolding frame-B frame-checks field number bits run decode curve-entry matrix right-side first-row-from weight total
+accepted-B = refl
+
+steps-B : after frame-B calls-B .k ≡ 5
+unfolding frame-B calls-B calls.budgets field number bits
+steps-B = accurate frame-B accepted-B calls-B .steps-made
+
+reading-B : Y frame-B calls-B 5 0 ≡ pos 15
+unfolding frame-B calls-B calls.run loaded advanced advance-checks steps-made steps one-step fresh breaks-limit beyond frame-checks field number bits run decode curve-entry matrix right-side first-row-from weight total dot sum list-from stores stepped-digits stepped-residuals shifted next-digit next-residual select digit-size reading
+reading-B = refl
+
+-- row 1's exact value is 16/33, in every solution, and the reading 15 after 5 steps, over 32, is within 1/32 of it
+pub case-B : (N : ℕ → ℤ) (D : ℕ) → 0 < D → ExactValues frame-B N D → (pos 33 *ℤ N 0 ≡ pos 16 *ℤ pos D) × (natAbs (N 0 *ℤ pos 32 -ℤ pos D *ℤ pos 15) ≤ D)
+unfolding frame-B field number bits run decode numerator-value denominator-value sum
+case-B N D h exact = (cancel {d = pos 8} (omega zarith) (first (N 0) (pos D) (value N D exact)), near)
+  where
+    value : (N : ℕ → ℤ) (D : ℕ) → ExactValues frame-B N D → pos 264 *ℤ N 0 ≡ pos 128 *ℤ pos D
+    value N D exact = accurate frame-B accepted-B calls-B .curve (omega arith) .value N D exact
+
+    first : (x d : ℤ) → pos 264 *ℤ x ≡ pos 128 *ℤ d → pos 8 *ℤ (pos 33 *ℤ x) ≡ pos 8 *ℤ (pos 16 *ℤ d)
+    first x d e =
+        solve (x ∷ []) (search polys depth 12) (search polys depth 12) tt ∙ e ∙ solve (d ∷ []) (search polys depth 12) (search polys depth 12) tt
+
+    near : natAbs (N 0 *ℤ pos 32 -ℤ pos D *ℤ pos 15) ≤ D
+    near = omega (arith, rw reading-B at (accurate frame-B accepted-B calls-B .near 5 (omega (arith, steps-B)) N D h exact 0 (omega arith)))

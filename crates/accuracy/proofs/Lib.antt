@@ -1,0 +1,4 @@
+pub mod Runs
+pub mod Demand3
+pub mod Promised
+pub mod Examples

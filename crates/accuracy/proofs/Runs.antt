@@ -1,0 +1,114 @@
+-- Lists of calls from a fresh job are steps of it: as many as the smaller of the last step and the sum of the budgets. Cited by `Demand3`.
+use mathlib.Core.Path.{_≡_, refl, sym, ap, _∙_}
+use mathlib.Core.Bool.{cond}
+use mathlib.Core.List.{List, [], _∷_, _++_}
+use mathlib.Core.Logic.{_⊎_, inl, inr}
+use Prim.Native.Nat.{ℕ, zero, suc, _+_, _-_, _<_, _≤_}
+use native.Mathlib.Omega.{arith}
+use borrow.Author.Tests.{le-leb, lt-leb}
+use lib.Dec.{leb, eqb, eqb·suc-zero}
+use lib.ListN.{length, take, getD}
+use lib.Seq.{take-suc}
+use native.Mathlib.Numerals.{add-one}
+use Rattle.integers.specs.Maximum.{le-or-lt}
+use Rattle.job.specs.Refusal.{first-refusal, accepted-before}
+use Rattle.state.specs.State.{last-step, state-checks}
+use Rattle.state.specs.declared.State.{State}
+use Rattle.evaluator.specs.Evaluator.{steps, least, advanced, advance-checks, steps-made}
+use Rattle.evaluator.proofs.Follow.{steps-header, steps-k, steps-add}
+use Rattle.evaluator.specs.declared.Advanced.{Advanced}
+use Rattle.accuracy.specs.Calls.{Call, advance, readings, state-after, run, budgets, advances}
+
+-- ---- the smaller of two numbers
+
+pub least-left : (a b : ℕ) → a ≤ b → least a b ≡ a
+least-left a b h = rw (le-leb a b h)
+
+pub least-right : (a b : ℕ) → b ≤ a → least a b ≡ b
+least-right a b h = by-case (le-or-lt a b)
+  where
+    by-case : (a ≤ b) ⊎ (b < a) → least a b ≡ b
+    by-case (inl l) = let e : a ≡ b = omega arith in least-left a b l ∙ e
+    by-case (inr l) = rw (lt-leb a b l)
+
+pub least-most : (a b : ℕ) → least a b ≤ a
+least-most a b = by-case (le-or-lt a b)
+  where
+    by-case : (a ≤ b) ⊎ (b < a) → least a b ≤ a
+    by-case (inl l) = omega (arith, least-left a b l)
+    by-case (inr l) = omega (arith, least-right a b (omega arith))
+
+-- a cap that is reached stays
+pub least-again : (a b c : ℕ) → least a (least a b + c) ≡ least a (b + c)
+least-again a b c = by-case (le-or-lt a b)
+  where
+    by-case : (a ≤ b) ⊎ (b < a) → least a (least a b + c) ≡ least a (b + c)
+    by-case (inl l) = rw (least-left a b l) (least-left a (a + c) (omega arith) ∙ sym (least-left a (b + c) (omega arith)))
+    by-case (inr l) = rw (least-right a b (omega arith))
+
+-- what is left of a cap
+least-left-over : (a b j : ℕ) → j ≤ a → j + least b (a - j) ≡ least a (j + b)
+least-left-over a b j h = by-case (le-or-lt b (a - j))
+  where
+    by-case : (b ≤ a - j) ⊎ (a - j < b) → j + least b (a - j) ≡ least a (j + b)
+    by-case (inl l) = rw (least-left b (a - j) l) (sym (least-right a (j + b) (omega arith)))
+    by-case (inr l) = rw (least-right b (a - j) (omega arith)) (let e : j + (a - j) ≡ a = omega arith in e ∙ sym (least-left a (j + b) (omega arith)))
+
+-- ---- one advance of a state that passes 20 and 24
+
+module _ (s : State) (passes : first-refusal (state-checks s) ≡ 0) (room : s .k ≤ last-step (s .header)) where
+  -- the growth of k: up to the last step
+  pub made-is : (budget : ℕ) → s .k + steps-made s budget ≡ least (last-step (s .header)) (s .k + budget)
+  unfolding steps-made advance-checks
+  made-is zero =
+      rw (accepted-before (state-checks s) _ tt passes)
+      (let e : s .k + 0 ≡ s .k = omega arith in rw e (sym (least-right (last-step (s .header)) (s .k) room)))
+  made-is (suc b) = rw (accepted-before (state-checks s) _ tt passes, eqb·suc-zero b) (by-case (le-or-lt (last-step (s .header)) (s .k)))
+    where
+      by-case : (last-step (s .header) ≤ s .k) ⊎ (s .k < last-step (s .header)) → s .k + cond (eqb (cond (leb (last-step (s .header)) (s .k)) 21 0) 0) (least (suc b) (last-step (s .header) - s .k)) 0 ≡ least (last-step (s .header)) (s .k + suc b)
+      by-case (inl l) =
+          rw (le-leb (last-step (s .header)) (s .k) l)
+          (let e : s .k + 0 ≡ last-step (s .header) = omega arith in e ∙ sym (least-left (last-step (s .header)) (s .k + suc b) (omega arith)))
+      by-case (inr l) = rw (lt-leb (last-step (s .header)) (s .k) l) (least-left-over (last-step (s .header)) (suc b) (s .k) room)
+
+made-from : (t : State) (j l budget : ℕ) → t .k ≡ j → last-step (t .header) ≡ l → first-refusal (state-checks t) ≡ 0 → j ≤ l → j + steps-made t budget ≡ least l (j + budget)
+made-from t j l budget e f passes h = rw (← e, ← f) (made-is t passes (rw (e, f) h) budget)
+
+-- ---- every list of calls
+
+module _ (s : State) (start : s .k ≡ 0) (passes : (j : ℕ) → j ≤ last-step (s .header) → first-refusal (state-checks (steps s j)) ≡ 0) where
+  made : (j : ℕ) → steps s j .k ≡ j
+  made j = omega (arith, steps-k s j)
+
+  advance-is : (j budget : ℕ) → j ≤ last-step (s .header) → advanced (steps s j) budget .state ≡ steps s (least (last-step (s .header)) (j + budget))
+  unfolding advanced
+  advance-is j budget h =
+      let e : j + steps-made (steps s j) budget ≡ least (last-step (s .header)) (j + budget) =
+      made-from (steps s j) j (last-step (s .header)) budget (made j) (ap last-step (steps-header s j)) (passes j h) h in
+      sym (steps-add s j (steps-made (steps s j) budget)) ∙ rw e
+
+  pub run-is : (j : ℕ) (calls : List Call) → j ≤ last-step (s .header) → run (steps s j) calls ≡ steps s (least (last-step (s .header)) (j + budgets calls))
+  unfolding run budgets
+  run-is j [] h = let e : j + 0 ≡ j = omega arith in rw (e, least-right (last-step (s .header)) j h)
+  run-is j (advance budget ∷ calls) h =
+      let e : j + (budget + budgets calls) ≡ j + budget + budgets calls = omega arith in
+      rw (advance-is j budget h, e, ← least-again (last-step (s .header)) (j + budget) (budgets calls))
+      (run-is (least (last-step (s .header)) (j + budget)) calls (least-most (last-step (s .header)) (j + budget)))
+  run-is j (readings out ∷ calls) h = run-is j calls h
+
+-- ---- calls one after the other
+
+pub run-append : (s : State) (xs ys : List Call) → run s (xs ++ ys) ≡ run (run s xs) ys
+unfolding run
+run-append s [] ys = refl
+run-append s (c ∷ xs) ys = run-append (state-after s c) xs ys
+
+advances-snoc : (xs : List ℕ) (b : ℕ) → advances (xs ++ (b ∷ [])) ≡ advances xs ++ (advance b ∷ [])
+advances-snoc [] b = refl
+advances-snoc (x ∷ xs) b = rw (advances-snoc xs b)
+
+-- a loop over budgets: one more
+pub advance-turn : (s t : State) (u : Advanced) (budgets : List ℕ) (i : ℕ) → i < length budgets → t ≡ run s (advances (take i budgets)) → u ≡ advanced t (getD budgets i 0) → u .state ≡ run s (advances (take (i + 1) budgets))
+unfolding run
+advance-turn s t u budgets i h e f =
+    rw (add-one, take-suc budgets i 0 h, advances-snoc (take i budgets) (getD budgets i 0), run-append s (advances (take i budgets)) (advance (getD budgets i 0) ∷ []), ← e, f)

@@ -1,0 +1,98 @@
+-- Demand 3: what holds after every list of calls from the fresh load of an accepted frame. It is one statement, `Accurate frame calls`, made of
+-- document 01's definitions; `accurate` of proofs/Demand3.antt proves it of every accepted frame and every list of calls.
+use mathlib.Core.Path.{_≡_}
+use mathlib.Core.List.{List, _∷_, _++_}
+use Prim.Native.Nat.{ℕ, _*_, _-_, _^_, _<_, _≤_}
+use lib.IntN.{ℤ, pos, natAbs, _+ℤ_, _-ℤ_, _*ℤ_}
+use lib.ListN.{length}
+use Rattle.integers.specs.Flat.{at}
+use Rattle.integers.specs.Product.{dot}
+use Rattle.job.specs.Header.{radix, unit}
+use Rattle.job.specs.System.{matrix-of, right-side-of, argument, numerator, denominator-of}
+use Rattle.frame.specs.Frame.{header-of, frame-numbers}
+use Rattle.recurrence.specs.Recurrence.{reading}
+use Rattle.recurrence.specs.System.{Solves}
+use Rattle.curve.specs.Curve.{CurveValue, numerator-value, denominator-value}
+use Rattle.state.specs.Digits.{all-steps, digits-of}
+use Rattle.state.specs.State.{last-step}
+use Rattle.state.specs.declared.State.{State}
+use Rattle.evaluator.specs.Evaluator.{loaded, least, job-digit, readings-refusal, readings-list}
+use Rattle.accuracy.specs.Calls.{Call, readings, run, budgets}
+
+-- ---- a frame's job: the order n, the radix r, the largest digit p, the unit u = 2^f, the last step
+
+abbrev pub order : List ℕ → ℕ
+order frame = header-of frame .n
+
+abbrev pub base : List ℕ → ℕ
+base frame = radix (header-of frame .code)
+
+abbrev pub largest : List ℕ → ℕ
+largest frame = header-of frame .p
+
+abbrev pub unit-of : List ℕ → ℕ
+unit-of frame = unit (header-of frame)
+
+abbrev pub last : List ℕ → ℕ
+last frame = last-step (header-of frame)
+
+-- the matrix G, which is the identity less A, and the right-hand sides b, in units of 1/u; rows and columns count from 0
+abbrev pub G : List ℕ → ℕ → ℕ → ℤ
+G frame = matrix-of (header-of frame) (frame-numbers frame)
+
+abbrev pub b : List ℕ → ℕ → ℤ
+b frame = right-side-of (header-of frame) (frame-numbers frame)
+
+-- the digit of step j and row i that document 01's steps give on the frame's numbers
+abbrev pub true-digit : List ℕ → ℕ → ℕ → ℤ
+true-digit frame = job-digit (header-of frame) (G frame) (b frame)
+
+-- ---- its exact values
+
+-- whole numbers N, one a row, and D such that the fractions N / D solve all rows: A times their vector is b
+abbrev pub ExactValues : List ℕ → (ℕ → ℤ) → ℕ → Type 0
+ExactValues frame N D = Solves (order frame) (unit-of frame) D (G frame) (b frame) N
+
+-- exact values exist, and in all of them row 1's N / D is p_0 + p_1 x + .. over 1 + q_1 x + .., whose denominator is above 0
+abbrev pub ExactCurve : List ℕ → Type 0
+ExactCurve frame =
+    CurveValue (order frame) (unit-of frame) (G frame) (b frame)
+    (numerator-value (unit-of frame) (argument (frame-numbers frame)) (numerator (frame-numbers frame)) (order frame))
+    (denominator-value (unit-of frame) (argument (frame-numbers frame)) (denominator-of (header-of frame .kind) (order frame) (frame-numbers frame)) (order frame))
+
+-- ---- the state after the calls
+
+abbrev pub after : List ℕ → List Call → State
+after frame calls = run (loaded frame .state) calls
+
+-- the digit of step j and row i that it holds
+abbrev pub held-digit : List ℕ → List Call → ℕ → ℕ → ℤ
+held-digit frame calls = digits-of (after frame calls .digits)
+
+-- Y: the whole number that its first k digits of row i spell
+abbrev pub Y : List ℕ → List Call → ℕ → ℕ → ℤ
+Y frame calls = reading (base frame) (held-digit frame calls)
+
+-- ---- demand 3
+
+pub record Accurate (frame : List ℕ) (calls : List Call) : Type 0 where
+  -- the steps made are the smaller of the job's last step and the sum of the budgets
+  pub steps-made : after frame calls .k ≡ least (last frame) (budgets calls)
+  -- the digits are those of the steps on the frame's numbers, and 0 past the steps made
+  pub digits : (j i : ℕ) → 1 ≤ j → j ≤ after frame calls .k → i < order frame → held-digit frame calls j i ≡ true-digit frame j i
+  pub later-digits : (j i : ℕ) → after frame calls .k < j → j ≤ all-steps → i < order frame → held-digit frame calls j i ≡ pos 0
+  -- for every k up to the steps made, every exact value and every row: (r - 1) |N r^k - D Y| ≤ p D
+  pub near : (k : ℕ) → k ≤ after frame calls .k → (N : ℕ → ℤ) (D : ℕ) → 0 < D → ExactValues frame N D → (i : ℕ) → i < order frame →
+      (base frame - 1) * natAbs (N i *ℤ pos (base frame ^ k) -ℤ pos D *ℤ Y frame calls k i) ≤ largest frame * D
+  -- row 1's exact value is that of the curve, for a polynomial (kind 0) and a rational curve (kind 1)
+  pub curve : header-of frame .kind ≤ 1 → ExactCurve frame
+  -- a readings call on the way hands out each row's Y at the steps made by then, and nothing where it is refused
+  pub handed-out : (before rest : List Call) (out : List ℤ) → calls ≡ before ++ (readings out ∷ rest) → readings-refusal (after frame before) (length out) ≡ 0 → (i : ℕ) → i < order frame →
+      at (readings-list (after frame before) out) i ≡ reading (base frame) (true-digit frame) (least (last frame) (budgets before)) i
+  pub nothing-out : (before rest : List Call) (out : List ℤ) → calls ≡ before ++ (readings out ∷ rest) → 0 < readings-refusal (after frame before) (length out) →
+      readings-list (after frame before) out ≡ out
+  -- r^k (b - A y) = z + G d, with y = Y / r^k and d the digits of step k, whether or not a solution is named
+  pub identity : (i : ℕ) → i < order frame →
+      pos (base frame ^ after frame calls .k) *ℤ b frame i
+      -ℤ (pos (unit-of frame) *ℤ Y frame calls (after frame calls .k) i -ℤ dot (order frame) (G frame i) (Y frame calls (after frame calls .k)))
+      ≡ at (after frame calls .z) i +ℤ dot (order frame) (G frame i) (held-digit frame calls (after frame calls .k))

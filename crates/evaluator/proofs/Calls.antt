@@ -1,0 +1,88 @@
+-- What the calls answer, over the locals of the code: the refusals of advance and readings, and their answers. Cited by the proofs of `advance`,
+-- `readings` and `load`.
+use mathlib.Core.Path.{_≡_, sym, ap, _∙_}
+use mathlib.Core.Bool.{cond}
+use mathlib.Core.List.{List, [], _∷_, _++_}
+use mathlib.Core.Logic.{_⊎_, inl, inr}
+use Prim.Native.Nat.{ℕ, _+_, _-_, _<_, _≤_}
+use native.Mathlib.Omega.{arith}
+use borrow.Author.Tests.{lt-ltb, le-ltb, le-leb, lt-leb, eq-eqb, ne-eqb}
+use lib.Dec.{T, ltb, nleb→lt, nltb→le}
+use lib.IntN.{ℤ}
+use lib.ListN.{length, drop}
+use Rattle.integers.specs.Flat.{list-from}
+use Rattle.integers.specs.Maximum.{le-or-lt}
+use Rattle.job.specs.Refusal.{Check, first-refusal, None, none, also, numbered, accepted-exactly, refused-before, accepted-before}
+use Rattle.state.specs.Sound.{Sound}
+use Rattle.state.specs.State.{last-step, state-checks}
+use Rattle.state.specs.declared.State.{State}
+use Rattle.evaluator.specs.Evaluator.{no-budget, all-made, least, steps, advance-checks, advance-refusal, steps-made, advanced, state-reading, list-too-short, readings-checks, readings-refusal, readings-list}
+use Rattle.evaluator.proofs.Kept.{passes-exactly}
+
+-- ---- checks after the state's
+
+pub refused-then : (xs ys : List Check) (bad : ℕ) → T (numbered xs) → bad ≡ first-refusal xs → cond (ltb 0 bad) bad (first-refusal ys) ≡ first-refusal (xs ++ ys)
+refused-then xs ys bad t e = by-case (le-or-lt bad 0)
+  where
+    by-case : (bad ≤ 0) ⊎ (0 < bad) → cond (ltb 0 bad) bad (first-refusal ys) ≡ first-refusal (xs ++ ys)
+    by-case (inl l) = let z : first-refusal xs ≡ 0 = omega arith in rw (le-ltb 0 bad l) (sym (accepted-before xs ys t z))
+    by-case (inr l) = rw (lt-ltb 0 bad l) (sym (refused-before xs ys bad l (sym e)))
+
+-- ---- advance
+
+pub least-most : (a b : ℕ) → least a b ≤ b
+least-most a b = by-order (le-or-lt a b)
+  where
+    by-order : (a ≤ b) ⊎ (b < a) → least a b ≤ b
+    by-order (inl l) = rw (le-leb a b l) l
+    by-order (inr l) = rw (lt-leb a b l) (omega arith)
+
+module _ (s : State) (budget bad refusal : ℕ) (checked : bad ≡ first-refusal (state-checks s))
+    (answer : refusal ≡ cond (ltb 0 bad) bad (first-refusal ((22, no-budget budget) ∷ (21, all-made s) ∷ []))) where
+  refusal-is : refusal ≡ advance-refusal s budget
+  unfolding advance-checks
+  refusal-is = answer ∙ refused-then (state-checks s) ((22, no-budget budget) ∷ (21, all-made s) ∷ []) bad tt checked
+
+  pub advance-refuses : (refusal ≡ 0 → ⊥) → record { refusal = refusal; made = 0; state = s } ≡ advanced s budget
+  unfolding advanced steps-made steps
+  advance-refuses h = rw (← refusal-is, ne-eqb refusal 0 h)
+
+  pub advance-makes : (made : ℕ) (t : State) → refusal ≡ 0 → made ≡ least budget (last-step (s .header) - s .k) → t ≡ steps s made
+      → record { refusal = refusal; made = made; state = t } ≡ advanced s budget
+  unfolding advanced steps-made
+  advance-makes made t h em et = rw (← refusal-is, eq-eqb refusal 0 h, ← em) (ap (λ (t : State). record { refusal = refusal; made = made; state = t }) et)
+
+  -- where nothing is refused the state is sound, and steps are left
+  pub advance-takes : refusal ≡ 0 → Sound s × (s .k < last-step (s .header))
+  unfolding advance-checks
+  advance-takes h = takes (accepted-exactly (advance-checks s budget) tt .0 (sym refusal-is ∙ h))
+    where
+      takes : None (advance-checks s budget) → Sound s × (s .k < last-step (s .header))
+      takes (also idle (also broken (also none-left (also made none)))) =
+          (passes-exactly s .0 (accepted-exactly (state-checks s) tt .1 (also idle (also broken none))) .1, nleb→lt (last-step (s .header)) (s .k) made)
+
+-- ---- readings
+
+module _ (s : State) (out : List ℤ) (bad refusal : ℕ) (checked : bad ≡ first-refusal (state-checks s))
+    (answer : refusal ≡ cond (ltb 0 bad) bad (first-refusal ((23, list-too-short s (length out)) ∷ []))) where
+  reads-is : refusal ≡ readings-refusal s (length out)
+  unfolding readings-checks
+  reads-is = answer ∙ refused-then (state-checks s) ((23, list-too-short s (length out)) ∷ []) bad tt checked
+
+  pub readings-refuses : (refusal ≡ 0 → ⊥) → (refusal ≡ readings-refusal s (length out)) × (out ≡ readings-list s out)
+  unfolding readings-list
+  readings-refuses h = (reads-is, rw (← reads-is, ne-eqb refusal 0 h))
+
+  pub readings-writes : (o : List ℤ) → refusal ≡ 0 → o ≡ list-from 0 (s .header .n) (state-reading s) ++ drop (s .header .n) out
+      → (refusal ≡ readings-refusal s (length out)) × (o ≡ readings-list s out)
+  unfolding readings-list
+  readings-writes o h e = (reads-is, e ∙ rw (← reads-is, eq-eqb refusal 0 h))
+
+  -- where nothing is refused the state is sound, and the list has a word for every row
+  pub readings-takes : refusal ≡ 0 → Sound s × (s .header .n ≤ length out)
+  unfolding readings-checks
+  readings-takes h = takes (accepted-exactly (readings-checks s (length out)) tt .0 (sym reads-is ∙ h))
+    where
+      takes : None (readings-checks s (length out)) → Sound s × (s .header .n ≤ length out)
+      takes (also idle (also broken (also short none))) =
+          (passes-exactly s .0 (accepted-exactly (state-checks s) tt .1 (also idle (also broken none))) .1, nltb→le (length out) (s .header .n) short)

@@ -1,0 +1,162 @@
+-- A step keeps what refusal 24 asks: a sound state can make a step, and is sound after any steps that are left. So is every state that a load and
+-- steps make. Cited by the proof of `advance` and by the claims about whole jobs.
+use mathlib.Core.Path.{_≡_, refl, ap, _∙_}
+use mathlib.Core.Bool.{Bool, true, false, not, cond}
+use mathlib.Core.List.{List}
+use mathlib.Core.Logic.{_⊎_, inl, inr, _↔_}
+use Prim.Native.Nat.{ℕ, zero, suc, _+_, _*_, _-_, _<_, _≤_}
+use native.Mathlib.Omega.{arith}
+use borrow.Author.Tests.{leb-true}
+use lib.IntN.{ℤ, pos, natAbs}
+use lib.ListN.{length, length-replicate}
+use lib.Pow.{pow-pos}
+use Rattle.integers.specs.Flat.{at, entry, at-flat-vector, length-list-from, length-stores}
+use Rattle.integers.specs.Maximum.{le-or-lt}
+use Rattle.integers.specs.Product.{weight}
+use Rattle.job.specs.Header.{radix, unit}
+use Rattle.job.specs.Limits.{radix-least, radix-most, digit-small, steps-small}
+use Rattle.job.specs.Refusal.{first-refusal}
+use Rattle.job.specs.declared.Header.{Header}
+use Rattle.recurrence.specs.Flat.{Ready}
+use Rattle.recurrence.specs.Light.{Light, light-half}
+use Rattle.recurrence.proofs.Stepped.{ready-next, length-stepped-residuals}
+use Rattle.state.specs.Digits.{digits-of}
+use Rattle.state.specs.Sound.{Sound}
+use Rattle.state.specs.State.{last-step, fresh, breaks-limit, state-checks}
+use Rattle.state.specs.declared.State.{State}
+use Rattle.state.proofs.Sound.{sound-exactly, fresh-sound}
+use Rattle.frame.specs.Frame.{header-of, frame-numbers, frame-refusal}
+use Rattle.frame.specs.Valid.{accepted-is}
+use Rattle.evaluator.specs.Evaluator.{last-digits, chosen-digits, left-residuals, digits-stored, one-step, steps}
+use Rattle.evaluator.proofs.Follow.{steps-header, steps-busy, steps-k, stored-same, stored-other}
+
+-- ---- passing 20 and 24
+
+abbrev of-tests : Bool → Bool → ℕ
+of-tests busy broken = cond (not busy) 20 (cond broken 24 0)
+
+neither : (busy broken : Bool) → (of-tests busy broken ≡ 0) ↔ ((busy ≡ true) × (broken ≡ false))
+neither busy broken = (to busy broken, λ e. rw (e .0, e .1))
+  where
+    to : (busy broken : Bool) → of-tests busy broken ≡ 0 → (busy ≡ true) × (broken ≡ false)
+    to true false e = (refl, refl)
+    to true true e = absurd (omega arith)
+    to false broken e = absurd (omega arith)
+
+-- exactly a job whose numbers are sound passes both
+pub passes-exactly : (s : State) → (first-refusal (state-checks s) ≡ 0) ↔ ((s .busy ≡ true) × Sound s)
+passes-exactly s =
+    let t = neither (s .busy) (breaks-limit s) in
+    ((λ e. (t .0 e .0, sound-exactly s .0 (t .0 e .1))), (λ p. t .1 (p .0, sound-exactly s .1 (p .1))))
+
+-- ---- the lengths of the arrays
+
+pub record Sized (s : State) : Type 0 where
+  pub z : length (s .z) ≡ 16
+  pub digits : length (s .digits) ≡ 960
+
+pub step-sized : (s : State) → Sized s → Sized (one-step s)
+unfolding one-step
+step-sized s m =
+    record {
+      z = length-stepped-residuals (s .header .n) (radix (s .header .code)) (s .header .p) (unit (s .header)) (s .g) (s .z) (last-digits s) ∙ m .z;
+      digits = length-stores (s .digits) (λ i. 16 * s .k + i) (at (chosen-digits s)) (s .header .n) ∙ m .digits;
+    }
+
+pub steps-sized : (s : State) (j : ℕ) → Sized s → Sized (steps s j)
+unfolding steps
+steps-sized s zero m = m
+steps-sized s (suc j) m = step-sized (steps s j) (steps-sized s j m)
+
+-- ---- a sound state can make a step
+
+module _ (s : State) (p : Sound s) where
+  abbrev n : ℕ
+  n = s .header .n
+
+  light : (i : ℕ) → i < n → Light (radix (s .header .code)) (s .header .p) (unit (s .header)) 1 2 (weight n (entry (s .g) i))
+  light i l =
+      let r = radix-least (s .header) (p .limits) in
+      light-half (radix (s .header .code)) (s .header .p) (unit (s .header)) (weight n (entry (s .g) i)) (omega arith) (omega (arith, p .limits .digit-least))
+      .1 (leb-true _ _ (p .light i l))
+
+  digit-within : (k i : ℕ) → k ≤ s .k → i < n → natAbs (digits-of (s .digits) k i) ≤ s .header .p
+  digit-within zero i m l = omega arith
+  digit-within (suc k) i m l = p .made k i m l
+
+  pub ready : Ready n (radix (s .header .code)) (s .header .p) (unit (s .header)) (s .g) (s .z) (last-digits s)
+  ready =
+      record {
+        order = p .limits .order-most;
+        radix = (radix-least (s .header) (p .limits), radix-most (s .header) (p .limits));
+        largest = digit-small (s .header) (p .limits);
+        light = record { rows = light };
+        held = record {
+          z-small = λ i l. omega (arith, p .small i l);
+          d-small = λ i l.
+              rw (at-flat-vector n (digits-of (s .digits) (s .k)) i (p .limits .order-most) l) (digit-within (s .k) i (omega arith) l);
+        };
+      }
+
+  -- ---- and is sound after it
+  module _ (left : s .k < last-step (s .header)) (m : Sized s) where
+    next : Ready n (radix (s .header .code)) (s .header .p) (unit (s .header)) (s .g) (left-residuals s) (chosen-digits s)
+    next = ready-next (pow-pos (s .header .f)) ready refl refl
+
+    abbrev stored : List ℤ
+    stored = digits-stored n (s .k) (s .digits) (chosen-digits s)
+
+    made : (t i : ℕ) → t < suc (s .k) → i < n → natAbs (entry stored t i) ≤ s .header .p
+    made t i l h = by-case (le-or-lt (s .k) t)
+      where
+        by-case : (s .k ≤ t) ⊎ (t < s .k) → natAbs (entry stored t i) ≤ s .header .p
+        by-case (inl a) =
+            let e : t ≡ s .k = omega arith in
+            rw (e, stored-same n (s .k) (s .digits) (chosen-digits s) i h (omega (arith, m .digits, steps-small (s .header) (p .limits))) (p .limits .order-most))
+            (next .held .d-small i h)
+        by-case (inr a) =
+            rw (stored-other n (s .k) (s .digits) (chosen-digits s) (suc t) i (λ e. omega arith) (omega (arith, p .limits .order-most)) (p .limits .order-most))
+            (p .made t i a h)
+
+    pub step-sound : Sound (one-step s)
+    unfolding one-step
+    step-sound =
+        record {
+          limits = p .limits;
+          steps = left;
+          light = p .light;
+          small = λ i l. omega (arith, next .held .z-small i l);
+          made = made;
+          later = λ t i a b l.
+              stored-other n (s .k) (s .digits) (chosen-digits s) (suc t) i (λ e. omega arith) (omega (arith, p .limits .order-most)) (p .limits .order-most)
+              ∙ p .later t i (omega arith) b l;
+        }
+
+pub steps-sound : (s : State) (j : ℕ) → Sound s → s .k + j ≤ last-step (s .header) → Sized s → Sound (steps s j)
+unfolding steps
+steps-sound s zero p l m = p
+steps-sound s (suc j) p l m =
+    step-sound (steps s j) (steps-sound s j p (omega arith) m) (rw (steps-header s j, steps-k s j) (omega arith)) (steps-sized s j m)
+
+-- ---- a loaded job
+
+pub fresh-sized : (h : Header) (v : List ℤ) → Sized (fresh h v)
+unfolding fresh
+fresh-sized h v = record { z = length-list-from 0 16 _; digits = length-replicate 960 (pos 0) }
+
+fresh-start : (h : Header) (v : List ℤ) → (fresh h v .busy ≡ true) × (fresh h v .k ≡ 0) × (fresh h v .header ≡ h)
+unfolding fresh
+fresh-start h v = (refl, refl, refl)
+
+pub loaded-sound : (s : List ℕ) → frame-refusal s ≡ 0 → Sound (fresh (header-of s) (frame-numbers s))
+loaded-sound s e =
+    let v = accepted-is s .0 e .valid in
+    fresh-sound (header-of s) (frame-numbers s) (v .limits) (v .light) (v .small)
+
+-- every state that steps make of an accepted frame passes 20 and 24
+pub loaded-passes : (s : List ℕ) → frame-refusal s ≡ 0 → (j : ℕ) → j ≤ last-step (header-of s) → first-refusal (state-checks (steps (fresh (header-of s) (frame-numbers s)) j)) ≡ 0
+loaded-passes s e j l =
+    let t = fresh (header-of s) (frame-numbers s) in
+    let f = fresh-start (header-of s) (frame-numbers s) in
+    passes-exactly (steps t j) .1
+    (steps-busy t j ∙ f .0, steps-sound t j (loaded-sound s e) (omega (arith, f .1, ap last-step (f .2))) (fresh-sized (header-of s) (frame-numbers s)))

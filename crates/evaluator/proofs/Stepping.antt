@@ -1,0 +1,126 @@
+-- The loop of `advance`: a state's arrays after j of its steps, held in locals, and one turn of the loop. Cited by the proof of `advance`.
+use mathlib.Core.Path.{_≡_, refl, sym, ap, _∙_}
+use mathlib.Core.List.{List}
+use mathlib.Core.Logic.{_⊎_, inl, inr}
+use mathlib.Core.Bool.{Bool, cond}
+use Prim.Native.Nat.{ℕ, zero, suc, _+_, _*_, _<_, _≤_}
+use native.Mathlib.Numerals.{add-one}
+use native.Mathlib.Omega.{arith}
+use borrow.Author.Tests.{le-ltb}
+use lib.Dec.{ltb}
+use lib.IntN.{ℤ, pos}
+use lib.ListN.{length}
+use lib.Seq.{ext-getD}
+use Rattle.integers.specs.Flat.{at, flat-vector, at-flat-vector, length-list-from, getD-list-from}
+use Rattle.integers.specs.Maximum.{le-or-lt}
+use Rattle.job.specs.Header.{radix, unit}
+use Rattle.job.specs.Limits.{steps-small}
+use Rattle.job.specs.declared.Header.{Header}
+use Rattle.recurrence.specs.Flat.{Ready, stepped-digits, stepped-residuals}
+use Rattle.recurrence.proofs.Stepped.{length-stepped-digits, stepped-digit-past}
+use Rattle.state.specs.Digits.{digits-of}
+use Rattle.state.specs.Sound.{Sound}
+use Rattle.state.specs.State.{last-step}
+use Rattle.state.specs.declared.State.{State}
+use Rattle.evaluator.specs.Evaluator.{last-digits, chosen-digits, left-residuals, digits-stored, one-step, steps}
+use Rattle.evaluator.proofs.Follow.{steps-header, steps-busy, steps-k, stored-same}
+use Rattle.evaluator.proofs.Kept.{Sized, steps-sized, steps-sound, ready}
+
+-- ---- the digits of a step, stored and copied out again
+
+module _ (n k : ℕ) (ds d : List ℤ) (order : n ≤ 16) (size : length d ≡ 16) (past : (i : ℕ) → n ≤ i → at d i ≡ pos 0) (room : 16 * k + 16 ≤ length ds) where
+  abbrev row : ℕ → ℤ
+  row = digits-of (digits-stored n k ds d) (suc k)
+
+  pub stored-copied : flat-vector n row ≡ d
+  stored-copied = ext-getD (pos 0) (flat-vector n row) d (length-list-from 0 16 _ ∙ sym size) (λ i l. same i (rw (length-list-from 0 16 (λ i. cond (ltb i n) (row i) (pos 0))) at l) (le-or-lt n i))
+    where
+      same : (i : ℕ) → i < 16 → (n ≤ i) ⊎ (i < n) → at (flat-vector n row) i ≡ at d i
+      same i l (inl h) =
+          let e : 0 + i ≡ i = omega arith in
+          getD-list-from 0 16 (λ i. cond (ltb i n) (row i) (pos 0)) i l ∙ rw (e, le-ltb i n h) (sym (past i h))
+      same i l (inr h) = at-flat-vector n row i order h ∙ stored-same n k ds d i h room order
+
+-- ---- what the locals hold after j steps
+
+abbrev pub with-digits : State → List ℤ → State
+with-digits s ds = record { busy = s .busy; header = s .header; k = s .k; g = s .g; z = s .z; digits = ds }
+
+pub record Reached (s : State) (j : ℕ) (t : State) (z before : List ℤ) : Type 0 where
+  pub state : t ≡ with-digits s (steps s j .digits)
+  pub residuals : z ≡ steps s j .z
+  pub digits : before ≡ last-digits (steps s j)
+
+pub reached-start : (s : State) (before : List ℤ) → before ≡ last-digits s → Reached s 0 s (s .z) before
+unfolding steps
+reached-start s before e = record { state = refl; residuals = refl; digits = e }
+
+steps-g : (s : State) (j : ℕ) → steps s j .g ≡ s .g
+unfolding steps one-step
+steps-g s zero = refl
+steps-g s (suc j) = steps-g s j
+
+state-is : (a : State) {b : Bool} {h : Header} {k : ℕ} {g z ds : List ℤ} → b ≡ a .busy → h ≡ a .header → k ≡ a .k → g ≡ a .g → z ≡ a .z → ds ≡ a .digits
+    → record { busy = b; header = h; k = k; g = g; z = z; digits = ds } ≡ a
+state-is a eb eh ek eg ez ed = rw (eb, eh, ek, eg, ez, ed) refl
+
+-- after the last turn
+pub reached-end : {s t : State} {j : ℕ} {z before : List ℤ} → Reached s j t z before
+    → record { busy = t .busy; header = t .header; k = s .k + j; g = t .g; z = z; digits = t .digits } ≡ steps s j
+reached-end {s} {t} {j} {z} h =
+    rw (h .state)
+    (state-is (steps s j) (sym (steps-busy s j)) (sym (steps-header s j)) (sym (steps-k s j)) (sym (steps-g s j)) (h .residuals) refl)
+
+-- ---- one turn
+
+-- what holds before the first step is made: `made` are to be made, and are left
+pub record Begun (s : State) (made : ℕ) : Type 0 where
+  pub sound : Sound s
+  pub room : Sized s
+  pub left : s .k + made ≤ last-step (s .header)
+
+module _ {s : State} {made : ℕ} (b : Begun s made) where
+  pub last-small : s .k + made ≤ 60
+  last-small = omega (arith, b .left, steps-small (s .header) (b .sound .limits))
+
+module _ {s t : State} {made j : ℕ} {z before : List ℤ} (b : Begun s made) (l : j < made) (h : Reached s j t z before) (r : ℕ) (radix-is : r ≡ radix (s .header .code)) where
+  abbrev S : State
+  S = steps s j
+
+  sound : Sound S
+  sound = steps-sound s j (b .sound) (omega (arith, b .left)) (b .room)
+
+  -- the step can be made
+  pub reached-ready : Ready (s .header .n) r (s .header .p) (unit (s .header)) (t .g) z before
+  reached-ready = rw (h .state, h .residuals, h .digits, radix-is, steps-header s j) (rw (steps-header s j, steps-g s j) at (ready S sound))
+
+  -- and one turn makes it: `chosen` and `next` are what `step` gave, `ds` what `store_digits` left
+  module _ (chosen next ds : List ℤ) (ec : chosen ≡ stepped-digits (s .header .n) r (s .header .p) (unit (s .header)) (t .g) z before)
+      (en : next ≡ stepped-residuals (s .header .n) r (s .header .p) (unit (s .header)) (t .g) z before)
+      (ed : ds ≡ digits-stored (s .header .n) (s .k + j) (t .digits) chosen) where
+    chosen-is : chosen ≡ chosen-digits S
+    chosen-is = ec ∙ rw (h .state, h .residuals, h .digits, radix-is, steps-header s j, steps-g s j) refl
+
+    next-is : next ≡ left-residuals S
+    next-is = en ∙ rw (h .state, h .residuals, h .digits, radix-is, steps-header s j, steps-g s j) refl
+
+    stored-is : ds ≡ digits-stored (S .header .n) (S .k) (S .digits) (chosen-digits S)
+    stored-is = ed ∙ rw (h .state, chosen-is, steps-header s j, steps-k s j) refl
+
+    copied : last-digits (one-step S) ≡ chosen-digits S
+    unfolding one-step
+    copied =
+        stored-copied (S .header .n) (S .k) (S .digits) (chosen-digits S) (sound .limits .order-most)
+        (length-stepped-digits (S .header .n) (radix (S .header .code)) (S .header .p) (unit (S .header)) (S .g) (S .z) (last-digits S))
+        (stepped-digit-past (S .header .n) (radix (S .header .code)) (S .header .p) (unit (S .header)) (S .g) (S .z) (last-digits S))
+        (omega (arith, steps-k s j, steps-sized s j (b .room) .digits, last-small b))
+
+    pub reached-next : Reached s (j + 1) (with-digits t ds) next chosen
+    unfolding steps one-step
+    reached-next =
+        rw add-one
+        (record {
+          state = rw (h .state) (ap (with-digits s) stored-is);
+          residuals = next-is;
+          digits = chosen-is ∙ sym copied;
+        })

@@ -1,0 +1,2 @@
+pub mod Evaluator
+pub mod Readable

@@ -1,0 +1,235 @@
+// Load, advance and readings (document 01, "Calls"). A state goes in and comes back by value, a list of readings is lent.
+//
+// `load` makes the state of a job frame: the job's matrix and right-hand sides, with 0 steps made. It is refused as the frame is, 1 to 9, with
+// the row that is given with 8 and 9; the state is then the idle one.
+//
+// `advance` makes as many steps as the budget allows and as are left, and answers how many. It is refused by 20, 24, 22, 21, the first that
+// holds; the state then comes back as it went in, and 0 steps are counted. The state is looked at once, before the first step: a step keeps
+// what 24 asks. No step copies the matrix.
+//
+// `readings` puts one reading a row, in row order, into the list; the words past the n-th keep their values. It is refused by 20, 24, 23, the
+// first that holds; all words then keep their values.
+//
+// None of the three requires anything. Each contract is an equality with a definition of specs/Evaluator.antt, for every frame and every state.
+// proofs/Theorems.antt has what follows from these definitions: which refusals there are and what they leave, and what is counted.
+// proofs/Follow.antt has that the steps are the recurrence's, and proofs/Kept.antt that every state of a loaded job passes 20 and 24.
+ghost use mathlib.Core.Path.{_≡_};
+ghost use mathlib.Core.Bool.{cond};
+ghost use mathlib.Core.List.{[], _∷_};
+ghost use Prim.Native.Nat.{_<_, _≤_};
+ghost use lib.Dec.{ltb, leb};
+ghost use lib.ListN.{length};
+ghost use Rattle.integers.specs.Flat.{flat-vector};
+ghost use Rattle.job.specs.Refusal.{first-refusal};
+ghost use Rattle.recurrence.specs.Recurrence.{reading};
+ghost use Rattle.state.specs.Digits.{digits-of};
+ghost use Rattle.state.specs.State.{idle-state};
+ghost use Rattle.evaluator.specs.Evaluator.{
+  loaded,
+  digits-stored,
+  no-budget,
+  least,
+  advanced,
+  readings-refusal,
+  readings-list,
+};
+ghost use Rattle.evaluator.specs.Readable.{Readable};
+use state::State;
+
+// What load answers: a refusal number, 0 where there is none, the row given with it, and the state.
+pub struct Loaded {
+    pub refusal: usize,
+    pub row: usize,
+    pub state: State,
+}
+
+// What advance answers: a refusal number, 0 where there is none, the steps made, and the state.
+pub struct Advanced {
+    pub refusal: usize,
+    pub made: u64,
+    pub state: State,
+}
+
+// The answer of a refused load.
+fn refused(refusal: usize, row: usize) -> Loaded
+    ensures { λ r. ⌜ r ≡ record { refusal = refusal; row = row; state = idle-state } ⌝ }
+{
+    Loaded {
+        refusal,
+        row,
+        state: state::idle(),
+    }
+}
+
+// The state of the job that the frame s spells.
+pub fn load(s: &[u8]) -> Loaded
+    ensures { λ r. ⌜ r ≡ loaded (now (s .entry)) ⌝ }
+{
+    let mut v = [0i64; 272];
+    let a = frame::unpack(s, &mut v);
+    if 0 < a.refusal {
+        return refused(a.refusal, 0);
+    }
+    let h = a.header;
+    let c = job::count(h);
+    let g = system::matrix(h.kind, h.n, h.f, &v[..c]);
+    let z = system::right_sides(h.kind, h.n, &v[..c]);
+    let d = system::verdict(&g, &z, h);
+    if 0 < d.refusal {
+        return refused(d.refusal, d.row);
+    }
+    Loaded {
+        refusal: 0,
+        row: 0,
+        state: State {
+            busy: true,
+            header: h,
+            k: 0,
+            g,
+            z,
+            digits: [0; 960],
+        },
+    }
+}
+
+// The digits of step k in the rows below n: 0 before the first step and past row n.
+fn last_digits(digits: &[i8; 960], k: usize, n: usize) -> [i8; 16]
+    requires { ⌜ (k ≤ 60) × (n ≤ 16) ⌝ }
+    ensures { λ d. ⌜ d ≡ flat-vector n (digits-of (now (digits .entry)) k) ⌝ }
+{
+    let mut d = [0i8; 16];
+    if k == 0 {
+        return d;
+    }
+    let base = 16 * (k - 1);
+    let mut i: usize = 0;
+    while i < n {
+        d[i] = digits[base + i];
+        i += 1;
+    }
+    d
+}
+
+// Stores the digits d of the step after the k-th, in the rows below n.
+fn store_digits(digits: &mut [i8; 960], k: usize, n: usize, d: &[i8; 16])
+    requires { ⌜ (k < 60) × (n ≤ 16) ⌝ }
+    ensures { λ _. ⌜ now (digits .exit) ≡ digits-stored n k (now (digits .entry)) (now (d .entry)) ⌝ }
+{
+    let base = 16 * k;
+    let mut i: usize = 0;
+    while i < n {
+        digits[base + i] = d[i];
+        i += 1;
+    }
+}
+
+// What advance is refused by: the state's number where it has one, then 22 and 21.
+fn advance_refusal(bad: usize, budget: u64, k: usize, last: usize) -> usize
+    ensures { λ r. ⌜ r ≡ cond (ltb 0 bad) bad (first-refusal ((22, no-budget budget) ∷ (21, leb last k) ∷ [])) ⌝ }
+{
+    if 0 < bad {
+        return bad;
+    }
+    if budget == 0 {
+        return 22;
+    }
+    if last <= k {
+        return 21;
+    }
+    0
+}
+
+// The smaller of two numbers.
+fn least(a: u64, b: u64) -> u64
+    ensures { λ r. ⌜ r ≡ least a b ⌝ }
+{
+    if a <= b { a } else { b }
+}
+
+// As many steps as the budget allows and as are left. The digits of the step before and those being chosen are two arrays that change places at
+// each step.
+pub fn advance(s: State, budget: u64) -> Advanced
+    ensures { λ r. ⌜ r ≡ advanced s budget ⌝ }
+{
+    let mut t = s;
+    let h = t.header;
+    let k = t.k;
+    let bad = state::check(t.busy, h, k, &t.g, &t.z, &t.digits);
+    let refusal = advance_refusal(bad, budget, k, h.m);
+    let mut made: u64 = 0;
+    if refusal == 0 {
+        made = least(budget, (h.m - k) as u64);
+        let n = h.n;
+        let r = job::radix(h.code);
+        let f = h.f;
+        let p = h.p;
+        let mut z = t.z;
+        let mut before = last_digits(&t.digits, k, n);
+        let mut chosen = [0i8; 16];
+        let mut j: u64 = 0;
+        while j < made {
+            chosen = recurrence::step(&t.g, &mut z, before, n, r, f, p);
+            store_digits(&mut t.digits, k + j as usize, n, &chosen);
+            let swap = before;
+            before = chosen;
+            chosen = swap;
+            j += 1;
+        }
+        t.z = z;
+        t.k = k + made as usize;
+    }
+    Advanced {
+        refusal,
+        made,
+        state: t,
+    }
+}
+
+// The reading of row i after k steps, by Horner's rule.
+fn reading(digits: &[i8; 960], i: usize, k: usize, r: usize) -> i64
+    requires { ⌜ Readable (now digits) i k r ⌝ }
+    ensures { λ y. ⌜ y ≡ reading r (digits-of (now (digits .entry))) k i ⌝ }
+{
+    let radix = r as i64;
+    let mut y: i64 = 0;
+    let mut j: usize = 0;
+    while j < k {
+        y = radix * y + integers::widen(digits[16 * j + i]);
+        j += 1;
+    }
+    y
+}
+
+// What readings is refused by: the state's number where it has one, then 23, where a list of `room` words has no word for some row.
+fn readings_refusal(bad: usize, room: usize, n: usize) -> usize
+    ensures { λ r. ⌜ r ≡ cond (ltb 0 bad) bad (first-refusal ((23, ltb room n) ∷ [])) ⌝ }
+{
+    if 0 < bad {
+        return bad;
+    }
+    if room < n {
+        return 23;
+    }
+    0
+}
+
+// The readings at the steps made, one a row.
+pub fn readings(s: State, out: &mut [i64]) -> usize
+    ensures answer { λ r. ⌜ r ≡ readings-refusal s (length (now (out .entry))) ⌝ }
+    ensures list { λ r. ⌜ now (out .exit) ≡ readings-list s (now (out .entry)) ⌝ }
+{
+    let h = s.header;
+    let k = s.k;
+    let n = h.n;
+    let bad = state::check(s.busy, h, k, &s.g, &s.z, &s.digits);
+    let answer = readings_refusal(bad, out.len(), n);
+    if answer == 0 {
+        let r = job::radix(h.code);
+        let mut i: usize = 0;
+        while i < n {
+            out[i] = reading(&s.digits, i, k, r);
+            i += 1;
+        }
+    }
+    answer
+}

@@ -1,0 +1,4 @@
+pub mod Header
+pub mod Unpacking
+pub mod Reader
+pub mod Writer

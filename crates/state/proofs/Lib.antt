@@ -1,0 +1,5 @@
+pub mod Checks
+pub mod Digits
+mod Example
+pub mod Search
+pub mod Sound

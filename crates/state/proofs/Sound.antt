@@ -1,0 +1,125 @@
+-- That a state passes refusal 24 exactly when it is sound, and that a fresh job of light rows and small right-hand sides is. For every proof that
+-- needs a bound on a state's numbers.
+use mathlib.Core.Path.{_≡_, refl, ap}
+use mathlib.Core.Bool.{Bool, true, false, not, _||_, true≢false}
+use mathlib.Core.List.{List}
+use mathlib.Core.Logic.{_↔_}
+use Prim.Native.Nat.{ℕ, _+_, _-_, _*_, _<_, _≤_}
+use native.Mathlib.Omega.{arith}
+use borrow.Author.Tests.{le-ltb, ltb-false, le-leb, leb-true, not-false}
+use lib.IntN.{ℤ, pos, natAbs}
+use lib.ListN.{getD-replicate}
+use Rattle.integers.specs.Absolute.{abs-zero}
+use Rattle.integers.specs.Flat.{at, entry, flat-matrix, at-flat-vector, entry-flat-matrix}
+use Rattle.integers.specs.Product.{weight, weight-ext}
+use Rattle.job.specs.Header.{unit, header-checks}
+use Rattle.job.specs.Limits.{Limits, limits-exactly, steps-small}
+use Rattle.job.specs.Refusal.{first-refusal}
+use Rattle.job.specs.Rows.{light-enough, small-enough}
+use Rattle.job.specs.System.{matrix-of, right-side-of}
+use Rattle.job.specs.declared.Header.{Header}
+use Rattle.state.specs.Digits.{all-steps}
+use Rattle.state.specs.Sound.{Sound}
+use Rattle.state.specs.State.{last-step, fresh, header-broken, steps-broken, row-broken, residual-broken, digit-broken, later-digit, breaks-limit}
+use Rattle.state.specs.declared.State.{State}
+use Rattle.state.proofs.Digits.{no-row, beyond-false}
+
+-- ---- each condition of 24, as what it leaves
+
+module _ (s : State) where
+  header-kept : (header-broken s ≡ false) ↔ Limits (s .header)
+  header-kept =
+      let r = first-refusal (header-checks (s .header)) in
+      ((λ e. limits-exactly (s .header) .0 (none r (ltb-false 0 r e))), (λ l. le-ltb 0 r (omega (arith, limits-exactly (s .header) .1 l))))
+    where
+      none : (r : ℕ) → r ≤ 0 → r ≡ 0
+      none r l = omega arith
+
+  steps-kept : (steps-broken s ≡ false) ↔ (s .k ≤ last-step (s .header))
+  steps-kept = (ltb-false (last-step (s .header)) (s .k), le-ltb (last-step (s .header)) (s .k))
+
+  rows-kept : (row-broken s ≡ false) ↔ ((i : ℕ) → i < s .header .n → light-enough (s .header) (weight (s .header .n) (entry (s .g) i)) ≡ true)
+  rows-kept =
+      let r = no-row (s .header .n) (λ i. not (light-enough (s .header) (weight (s .header .n) (entry (s .g) i)))) in
+      ((λ e i l. not-false _ (r .0 e .never i l)), (λ h. r .1 (record { never = λ i l. ap not (h i l) })))
+
+  residuals-kept : (residual-broken s ≡ false) ↔ ((i : ℕ) → i < s .header .n → 2 * natAbs (at (s .z) i) ≤ unit (s .header))
+  residuals-kept =
+      let r = no-row (s .header .n) (λ i. not (small-enough (s .header) (at (s .z) i))) in
+      ((λ e i l. leb-true _ _ (not-false _ (r .0 e .never i l))), (λ h. r .1 (record { never = λ i l. ap not (le-leb _ _ (h i l)) })))
+
+  digits-kept : (digit-broken s ≡ false) ↔ ((t i : ℕ) → t < s .k → i < s .header .n → natAbs (entry (s .digits) t i) ≤ s .header .p)
+  digits-kept =
+      let r = beyond-false (s .header .n) (s .header .p) (s .digits) 0 (s .k) in
+      ((λ e t i l m. r .0 e i m t (omega arith) (omega arith)), (λ h. r .1 (λ i m t g l. h t i (omega arith) m)))
+
+  later-kept : s .k ≤ all-steps
+      → (later-digit s ≡ false) ↔ ((t i : ℕ) → s .k ≤ t → t < all-steps → i < s .header .n → entry (s .digits) t i ≡ pos 0)
+  later-kept k =
+      let r = beyond-false (s .header .n) 0 (s .digits) (s .k) (all-steps - s .k) in (
+        (λ e t i g l m. abs-zero (entry (s .digits) t i) (r .0 e i m t g (omega arith))),
+        (λ h. r .1 (λ i m t g l. omega (arith, ap natAbs (h t i g (omega arith) m)))),
+      )
+
+-- ---- all of them
+
+all-fail : (a b c d e f : Bool)
+    → (a || (b || (c || (d || (e || f))))) ≡ false
+    → (a ≡ false) × (b ≡ false) × (c ≡ false) × (d ≡ false) × (e ≡ false) × (f ≡ false)
+all-fail true b c d e f p = absurd (true≢false p)
+all-fail false true c d e f p = absurd (true≢false p)
+all-fail false false true d e f p = absurd (true≢false p)
+all-fail false false false true e f p = absurd (true≢false p)
+all-fail false false false false true f p = absurd (true≢false p)
+all-fail false false false false false f p = (refl, refl, refl, refl, refl, p)
+
+-- a state passes 24 exactly when it is sound
+pub sound-exactly : (s : State) → (breaks-limit s ≡ false) ↔ Sound s
+unfolding breaks-limit
+sound-exactly s = (to, of)
+  where
+    to : breaks-limit s ≡ false → Sound s
+    to e =
+        let k = all-fail (header-broken s) (steps-broken s) (row-broken s) (residual-broken s) (digit-broken s) (later-digit s) e in
+        let l = header-kept s .0 (k .0) in
+        let m = steps-kept s .0 (k .1) in
+        record {
+          limits = l;
+          steps = m;
+          light = rows-kept s .0 (k .2);
+          small = residuals-kept s .0 (k .3);
+          made = digits-kept s .0 (k .4);
+          later = later-kept s (omega (arith, steps-small (s .header) l)) .0 (k .5);
+        }
+
+    of : Sound s → breaks-limit s ≡ false
+    of p =
+        rw (
+          header-kept s .1 (p .limits),
+          steps-kept s .1 (p .steps),
+          rows-kept s .1 (p .light),
+          residuals-kept s .1 (p .small),
+          digits-kept s .1 (p .made),
+          later-kept s (omega (arith, p .steps, steps-small (s .header) (p .limits))) .1 (p .later),
+        )
+
+-- the fresh job of a header and numbers that are accepted is
+pub fresh-sound : (h : Header) (v : List ℤ) → Limits h
+    → ((i : ℕ) → i < h .n → light-enough h (weight (h .n) (matrix-of h v i)) ≡ true)
+    → ((i : ℕ) → i < h .n → small-enough h (right-side-of h v i) ≡ true)
+    → Sound (fresh h v)
+unfolding fresh
+fresh-sound h v l p q =
+    record {
+      limits = l;
+      steps = omega arith;
+      light = λ i k. rw (same-weight i k) (p i k);
+      small = λ i k. rw (at-flat-vector (h .n) (right-side-of h v) i (l .order-most) k) (leb-true (2 * natAbs (right-side-of h v i)) (unit h) (q i k));
+      made = λ t i k. absurd (omega arith);
+      later = λ t i g k m. getD-replicate 960 (16 * t + i) (pos 0) (pos 0) (omega (arith, l .order-most));
+    }
+  where
+    same-weight : (i : ℕ) → i < h .n → weight (h .n) (entry (flat-matrix (h .n) (matrix-of h v)) i) ≡ weight (h .n) (matrix-of h v i)
+    same-weight i k =
+        weight-ext (h .n) (entry (flat-matrix (h .n) (matrix-of h v)) i) (matrix-of h v i)
+        (λ j m. entry-flat-matrix (h .n) (matrix-of h v) i j (l .order-most) k m)

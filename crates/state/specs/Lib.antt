@@ -1,0 +1,4 @@
+pub mod Digits
+pub mod Marks
+pub mod State
+pub mod Sound
