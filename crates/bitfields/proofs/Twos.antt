@@ -4,16 +4,16 @@ use mathlib.Core.Path.{_≡_, refl, sym, ap, _∙_}
 use mathlib.Core.List.{List, [], _∷_, _++_, map, map-append}
 use mathlib.Core.Bool.{true, false}
 use mathlib.Core.Logic.{_⊎_, inl, inr, ⊎-elim}
-use Prim.Native.Nat.{ℕ, zero, suc, _+_, _-_, _*_, _^_, _<_, _≤_, min}
+use Prim.Native.Nat.{ℕ, zero, suc, _+_, _-_, _*_, _/_, _^_, _<_, _≤_, min}
 use native.Mathlib.Decide.{decLt}
-use native.Mathlib.Nat.{lt-of-lt-of-le, two-pow-succ, zero-add}
+use native.Mathlib.Nat.{div-lt-iff-lt-mul, mul-le-mul-right, div-eq-of-lt, div-eq-of-lt-le, lt-of-lt-of-le, two-pow-succ, zero-add}
 use native.Mathlib.Omega.{arith}
 use mir.Facts.{toZ-ofZ}
 use mir.Syntax.{w64}
-use mir.Val.{toZ, ofZ}
+use mir.Val.{SFits, toZ, ofZ}
 use borrow.Author.Needs.{sfits-of}
 use borrow.Author.Tests.{le-ltb, lt-ltb, ltb-true}
-use lib.IntN.{ℤ, pos, negsuc, _-ℤ_, natAbs}
+use lib.IntN.{ℤ, pos, negsuc, _+ℤ_, _-ℤ_, natAbs, +ℤ-idr}
 use lib.ListN.{length, take, getD, replicate, length-map, length-take, List·getD-map}
 use lib.Pow.{pow-mono, pow-pos}
 use lib.Seq.{getD-take}
@@ -30,6 +30,9 @@ halves w p =
     let e : suc (w - 1) ≡ w = omega arith in
     rw e at (two-pow-succ (w - 1))
 
+lt-or-le : (a b : ℕ) → (a < b) ⊎ (b ≤ a)
+lt-or-le a b = elim (decLt a b) [ yes l ↦ inl l | no g ↦ inr (omega arith) ]
+
 -- below half of 2 ^ w, and from there on
 pub decode-low : (w x : ℕ) → x < 2 ^ (w - 1) → decode w x ≡ pos x
 unfolding decode
@@ -38,6 +41,23 @@ decode-low w x h = rw (lt-ltb x (2 ^ (w - 1)) h)
 pub decode-high : (w x : ℕ) → 2 ^ (w - 1) ≤ x → decode w x ≡ negsuc (2 ^ w - suc x)
 unfolding decode
 decode-high w x h = rw (le-ltb x (2 ^ (w - 1)) h)
+
+-- the first bit, 0 or 1, counts for -(2 ^ w)
+pub decode-first : (w x : ℕ) → 0 < w → x < 2 ^ w → pos x -ℤ pos (x / 2 ^ (w - 1) * 2 ^ w) ≡ decode w x
+decode-first w x p h = ⊎-elim low high (lt-or-le x (2 ^ (w - 1)))
+  where
+    less : (x m : ℕ) → x < suc m → pos x +ℤ negsuc m ≡ negsuc (suc m - suc x)
+    less x m l = rw (lt-ltb x (suc m) l)
+
+    low : x < 2 ^ (w - 1) → pos x -ℤ pos (x / 2 ^ (w - 1) * 2 ^ w) ≡ decode w x
+    low l = let e : 0 * 2 ^ w ≡ 0 = omega arith in rw (div-eq-of-lt l, e, +ℤ-idr (pos x)) (sym (decode-low w x l))
+
+    high : 2 ^ (w - 1) ≤ x → pos x -ℤ pos (x / 2 ^ (w - 1) * 2 ^ w) ≡ decode w x
+    high l =
+        let o : x / 2 ^ (w - 1) ≡ 1 = div-eq-of-lt-le (2 ^ (w - 1)) (omega arith) (omega (arith, halves w p)) in
+        let m : 2 ^ w ≡ suc (2 ^ w - 1) = omega arith in
+        let e : 1 * 2 ^ w ≡ 2 ^ w = omega arith in
+        rw (o, e, decode-high w x l, m) (less x (2 ^ w - 1) (omega arith))
 
 pub decode-encode : {w : ℕ} {z : ℤ} → 0 < w → Fits w z → decode w (encode w z) ≡ z
 unfolding encode
@@ -51,9 +71,6 @@ pub encode-lt : {w : ℕ} {z : ℤ} → 0 < w → Fits w z → encode w z < 2 ^ 
 unfolding encode
 encode-lt {w} {z = pos n} p h = omega (arith, halves w p, h .size)
 encode-lt {w} {z = negsuc n} p h = omega (arith, halves w p, h .size)
-
-lt-or-le : (a b : ℕ) → (a < b) ⊎ (b ≤ a)
-lt-or-le a b = elim (decLt a b) [ yes l ↦ inl l | no g ↦ inr (omega arith) ]
 
 pub encode-decode : (w x : ℕ) → x < 2 ^ w → encode w (decode w x) ≡ x
 unfolding encode
@@ -187,3 +204,25 @@ plain z h = toZ-ofZ {w = w64} (sfits-of h)
 -- a number of at most 48 bits is in range
 pub in-word : {w : ℕ} {z : ℤ} → w ≤ 48 → Fits w z → mag z < 2 ^ 63
 in-word l h = lt-of-lt-of-le (h .size) (pow-mono {j = 63} (omega arith))
+
+-- ---- the number that w bits stand for, as the code has it
+
+pub first-most : (w x : ℕ) → 0 < w → w ≤ 48 → x < 2 ^ w → x / 2 ^ (w - 1) * 2 ^ w < 2 ^ 63
+first-most w x p k h =
+    let b : x / 2 ^ (w - 1) < 2 = div-lt-iff-lt-mul {k = 2 ^ (w - 1)} {x = x} {y = 2} (pow-pos (w - 1)) .1 (omega (arith, halves w p)) in
+    let m : x / 2 ^ (w - 1) * 2 ^ w ≤ 1 * 2 ^ w = mul-le-mul-right (2 ^ w) (omega arith) in
+    omega (arith, pow-mono {i = w} {j = 48} k)
+
+module _ (w x : ℕ) (a b : ℤ) (p : 0 < w) (k : w ≤ 48) (h : x < 2 ^ w) (ea : a ≡ pos x) (eb : b ≡ pos (x / 2 ^ (w - 1) * 2 ^ w)) where
+  difference-is : toZ w64 (ofZ w64 a) -ℤ toZ w64 (ofZ w64 b) ≡ decode w x
+  difference-is =
+      rw (ea, eb, plain (pos x) (omega (arith, pow-mono {i = w} {j = 48} k)), plain (pos (x / 2 ^ (w - 1) * 2 ^ w)) (first-most w x p k h)) (decode-first w x p h)
+
+  decode-word : mag (decode w x) < 2 ^ 63
+  decode-word = in-word k (decode-fits w x p h)
+
+  pub difference-fits : SFits w64 (toZ w64 (ofZ w64 a) -ℤ toZ w64 (ofZ w64 b))
+  difference-fits = rw difference-is (sfits-of decode-word)
+
+  pub difference-read : toZ w64 (ofZ w64 (toZ w64 (ofZ w64 a) -ℤ toZ w64 (ofZ w64 b))) ≡ decode w x
+  difference-read = rw difference-is (plain (decode w x) decode-word)

@@ -150,16 +150,12 @@ pub fn fits(z: i64, w: usize) -> bool
     magnitude(z) < pow2(w - 1)
 }
 
-// The number that the w bits of x stand for.
+// The number that the w bits of x stand for: x, less 2 ^ w where its first bit is set. There is no branch, since signs cannot be foreseen.
 pub fn to_signed(x: u64, w: usize) -> i64
     requires { ⌜ (0 < w) × (w ≤ 48) × (x < 2 ^ w) ⌝ }
     ensures { λ r. ⌜ r ≡ decode w x ⌝ }
 {
-    if x < pow2(w - 1) {
-        signed(x)
-    } else {
-        flip(signed(pow2(w) - 1 - x))
-    }
+    signed(x) - signed(x / pow2(w - 1) * pow2(w))
 }
 
 // The w bits that stand for z.

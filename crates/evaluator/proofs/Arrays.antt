@@ -4,17 +4,16 @@ use mathlib.Core.Path.{_≡_, refl, sym, ap, _∙_}
 use mathlib.Core.Bool.{Bool, true, false, cond}
 use mathlib.Core.List.{List, _++_}
 use Prim.Native.Nat.{ℕ, zero, suc, _+_, _*_, _-_, _^_, _<_, _≤_}
-use native.Mathlib.Nat.{zero-add}
-use native.Mathlib.Numerals.{add-one}
 use native.Mathlib.Omega.{arith}
 use lib.IntN.{ℤ, pos}
 use lib.ListN.{length, set, take, drop, replicate}
-use lib.Seq.{paste-suc, take-all}
+use lib.Seq.{take-all}
 use lib.Signed.{mag}
 use mir.Syntax.{w8, w64}
 use mir.Val.{toZ, ofZ}
 use mir.Facts.{toZ-ofZ}
 use Rattle.integers.specs.Flat.{at, list-from, flat-vector, length-list-from, getD-list-from}
+use Rattle.frame.proofs.Reader.{copy-turn}
 use Rattle.state.specs.Digits.{digits-of}
 
 -- a digit that is read and stored as it is
@@ -48,8 +47,8 @@ module _ (d : List ℤ) (n : ℕ) (f : ℕ → ℤ) where
   pub replaced-next : (out : List ℤ) (i : ℕ) (x : ℤ) → i < n → n ≤ length d → out ≡ replaced i → x ≡ f i → set out i x ≡ replaced (i + 1)
   replaced-next out i x l h e g =
       let a : 0 + i ≡ i = omega arith in
-      let y : x ≡ at (list-from 0 n f) i = g ∙ sym (getD-list-from 0 n f i l ∙ ap f a) in
-      rw (e, y, add-one) (simp zero-add at (paste-suc d 0 (list-from 0 n f) i (pos 0) (omega arith) (rw (length-list-from 0 n f) l)))
+      let m : length (list-from 0 n f) ≡ n = length-list-from 0 n f in
+      copy-turn d (list-from 0 n f) i (rw m l) (rw m h) e (g ∙ sym (getD-list-from 0 n f i l ∙ ap f a))
 
   pub replaced-all : (out : List ℤ) (i : ℕ) → i ≡ n → out ≡ replaced i → out ≡ list-from 0 n f ++ drop n d
   replaced-all out i e g = g ∙ rw (e, take-all n (list-from 0 n f) (omega (arith, length-list-from 0 n f))) refl

@@ -1,5 +1,5 @@
--- What the calls answer, over the locals of the code: the refusals of advance and readings, and their answers. Cited by the proofs of `advance`,
--- `readings` and `load`.
+-- What advance and readings answer, over the locals of their code: by what they are refused, and what they give and leave. Cited by the proofs of
+-- `advance` and `readings`.
 use mathlib.Core.Path.{_≡_, sym, ap, _∙_}
 use mathlib.Core.Bool.{cond}
 use mathlib.Core.List.{List, [], _∷_, _++_}

@@ -1,13 +1,13 @@
 -- Steps of a state and the recurrence: what a step keeps, where it stores its digits, and that a state which holds the recurrence's residuals and digits
 -- holds those of one step more after a step. Cited by the proof of `advance` and by the claims about whole jobs.
-use mathlib.Core.Path.{_≡_, refl, sym, ap, _∙_}
+use mathlib.Core.Path.{_≡_, refl, ap, _∙_}
 use mathlib.Core.List.{List}
 use mathlib.Core.Logic.{_⊎_, inl, inr}
 use Prim.Native.Nat.{ℕ, zero, suc, _+_, _*_, _<_, _≤_}
 use native.Mathlib.Omega.{arith}
 use lib.IntN.{ℤ, pos}
 use lib.ListN.{length, replicate, length-replicate, getD-replicate}
-use Rattle.integers.specs.Flat.{at, entry, at-flat-vector, entry-flat-matrix, length-list-from, stores, stores-at, stores-other, length-stores}
+use Rattle.integers.specs.Flat.{at, entry, at-flat-vector, entry-flat-matrix, length-list-from, stores-at, stores-other, length-stores}
 use Rattle.integers.specs.Maximum.{le-or-lt}
 use Rattle.integers.specs.Product.{dot-ext}
 use Rattle.job.specs.Header.{radix, unit}

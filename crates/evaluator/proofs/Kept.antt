@@ -1,6 +1,6 @@
 -- A step keeps what refusal 24 asks: a sound state can make a step, and is sound after any steps that are left. So is every state that a load and
 -- steps make. Cited by the proof of `advance` and by the claims about whole jobs.
-use mathlib.Core.Path.{_≡_, refl, ap, _∙_}
+use mathlib.Core.Path.{_≡_, refl, sym, ap, _∙_, subst}
 use mathlib.Core.Bool.{Bool, true, false, not, cond}
 use mathlib.Core.List.{List}
 use mathlib.Core.Logic.{_⊎_, inl, inr, _↔_}
@@ -8,18 +8,18 @@ use Prim.Native.Nat.{ℕ, zero, suc, _+_, _*_, _-_, _<_, _≤_}
 use native.Mathlib.Omega.{arith}
 use borrow.Author.Tests.{leb-true}
 use lib.IntN.{ℤ, pos, natAbs}
-use lib.ListN.{length, length-replicate}
+use lib.ListN.{length, List·getD-eq-default}
 use lib.Pow.{pow-pos}
-use Rattle.integers.specs.Flat.{at, entry, at-flat-vector, length-list-from, length-stores}
+use Rattle.integers.specs.Flat.{at, entry, at-flat-vector, length-stores, stores-at}
 use Rattle.integers.specs.Maximum.{le-or-lt}
 use Rattle.integers.specs.Product.{weight}
 use Rattle.job.specs.Header.{radix, unit}
-use Rattle.job.specs.Limits.{radix-least, radix-most, digit-small, steps-small}
+use Rattle.job.specs.Limits.{radix-least, radix-most, digit-small}
 use Rattle.job.specs.Refusal.{first-refusal}
 use Rattle.job.specs.declared.Header.{Header}
 use Rattle.recurrence.specs.Flat.{Ready}
 use Rattle.recurrence.specs.Light.{Light, light-half}
-use Rattle.recurrence.proofs.Stepped.{ready-next, length-stepped-residuals}
+use Rattle.recurrence.proofs.Stepped.{ready-next}
 use Rattle.state.specs.Digits.{digits-of}
 use Rattle.state.specs.Sound.{Sound}
 use Rattle.state.specs.State.{last-step, fresh, breaks-limit, state-checks}
@@ -28,7 +28,7 @@ use Rattle.state.proofs.Sound.{sound-exactly, fresh-sound}
 use Rattle.frame.specs.Frame.{header-of, frame-numbers, frame-refusal}
 use Rattle.frame.specs.Valid.{accepted-is}
 use Rattle.evaluator.specs.Evaluator.{last-digits, chosen-digits, left-residuals, digits-stored, one-step, steps}
-use Rattle.evaluator.proofs.Follow.{steps-header, steps-busy, steps-k, stored-same, stored-other}
+use Rattle.evaluator.proofs.Follow.{steps-header, steps-busy, steps-k, stored-other}
 
 -- ---- passing 20 and 24
 
@@ -49,24 +49,16 @@ passes-exactly s =
     let t = neither (s .busy) (breaks-limit s) in
     ((λ e. (t .0 e .0, sound-exactly s .0 (t .0 e .1))), (λ p. t .1 (p .0, sound-exactly s .1 (p .1))))
 
--- ---- the lengths of the arrays
+-- ---- the digits of a step in the array
 
-pub record Sized (s : State) : Type 0 where
-  pub z : length (s .z) ≡ 16
-  pub digits : length (s .digits) ≡ 960
-
-pub step-sized : (s : State) → Sized s → Sized (one-step s)
-unfolding one-step
-step-sized s m =
-    record {
-      z = length-stepped-residuals (s .header .n) (radix (s .header .code)) (s .header .p) (unit (s .header)) (s .g) (s .z) (last-digits s) ∙ m .z;
-      digits = length-stores (s .digits) (λ i. 16 * s .k + i) (at (chosen-digits s)) (s .header .n) ∙ m .digits;
-    }
-
-pub steps-sized : (s : State) (j : ℕ) → Sized s → Sized (steps s j)
-unfolding steps
-steps-sized s zero m = m
-steps-sized s (suc j) m = step-sized (steps s j) (steps-sized s j m)
+-- what holds of 0 and of the digits stored holds of what the array then has at their places, whether or not it has these places
+stored-each : (n k : ℕ) (ds d : List ℤ) (Q : ℤ → Type 0) → Q (pos 0) → ((i : ℕ) → i < n → Q (at d i)) → (i : ℕ) → i < n → Q (entry (digits-stored n k ds d) k i)
+stored-each n k ds d Q q h i l = by-case (le-or-lt (length ds) (16 * k + i))
+  where
+    by-case : (length ds ≤ 16 * k + i) ⊎ (16 * k + i < length ds) → Q (entry (digits-stored n k ds d) k i)
+    by-case (inl a) =
+        subst Q (sym (List·getD-eq-default (digits-stored n k ds d) (pos 0) (omega (arith, length-stores ds (λ t. 16 * k + t) (at d) n)))) q
+    by-case (inr a) = subst Q (sym (stores-at ds (λ t. 16 * k + t) (at d) n i l a (λ t b c e. omega arith))) (h i l)
 
 -- ---- a sound state can make a step
 
@@ -99,12 +91,16 @@ module _ (s : State) (p : Sound s) where
       }
 
   -- ---- and is sound after it
-  module _ (left : s .k < last-step (s .header)) (m : Sized s) where
+  module _ (left : s .k < last-step (s .header)) where
     next : Ready n (radix (s .header .code)) (s .header .p) (unit (s .header)) (s .g) (left-residuals s) (chosen-digits s)
     next = ready-next (pow-pos (s .header .f)) ready refl refl
 
     abbrev stored : List ℤ
     stored = digits-stored n (s .k) (s .digits) (chosen-digits s)
+
+    other : (t i : ℕ) → (t ≡ s .k → ⊥) → i < n → entry stored t i ≡ entry (s .digits) t i
+    other t i e l =
+        stored-other n (s .k) (s .digits) (chosen-digits s) (suc t) i (λ q. e (omega arith)) (omega (arith, p .limits .order-most)) (p .limits .order-most)
 
     made : (t i : ℕ) → t < suc (s .k) → i < n → natAbs (entry stored t i) ≤ s .header .p
     made t i l h = by-case (le-or-lt (s .k) t)
@@ -112,11 +108,8 @@ module _ (s : State) (p : Sound s) where
         by-case : (s .k ≤ t) ⊎ (t < s .k) → natAbs (entry stored t i) ≤ s .header .p
         by-case (inl a) =
             let e : t ≡ s .k = omega arith in
-            rw (e, stored-same n (s .k) (s .digits) (chosen-digits s) i h (omega (arith, m .digits, steps-small (s .header) (p .limits))) (p .limits .order-most))
-            (next .held .d-small i h)
-        by-case (inr a) =
-            rw (stored-other n (s .k) (s .digits) (chosen-digits s) (suc t) i (λ e. omega arith) (omega (arith, p .limits .order-most)) (p .limits .order-most))
-            (p .made t i a h)
+            rw e (stored-each n (s .k) (s .digits) (chosen-digits s) (λ x. natAbs x ≤ s .header .p) (omega arith) (next .held .d-small) i h)
+        by-case (inr a) = rw (other t i (λ e. omega arith) h) (p .made t i a h)
 
     pub step-sound : Sound (one-step s)
     unfolding one-step
@@ -127,22 +120,15 @@ module _ (s : State) (p : Sound s) where
           light = p .light;
           small = λ i l. omega (arith, next .held .z-small i l);
           made = made;
-          later = λ t i a b l.
-              stored-other n (s .k) (s .digits) (chosen-digits s) (suc t) i (λ e. omega arith) (omega (arith, p .limits .order-most)) (p .limits .order-most)
-              ∙ p .later t i (omega arith) b l;
+          later = λ t i a b l. other t i (λ e. omega arith) l ∙ p .later t i (omega arith) b l;
         }
 
-pub steps-sound : (s : State) (j : ℕ) → Sound s → s .k + j ≤ last-step (s .header) → Sized s → Sound (steps s j)
+pub steps-sound : (s : State) (j : ℕ) → Sound s → s .k + j ≤ last-step (s .header) → Sound (steps s j)
 unfolding steps
-steps-sound s zero p l m = p
-steps-sound s (suc j) p l m =
-    step-sound (steps s j) (steps-sound s j p (omega arith) m) (rw (steps-header s j, steps-k s j) (omega arith)) (steps-sized s j m)
+steps-sound s zero p l = p
+steps-sound s (suc j) p l = step-sound (steps s j) (steps-sound s j p (omega arith)) (rw (steps-header s j, steps-k s j) (omega arith))
 
 -- ---- a loaded job
-
-pub fresh-sized : (h : Header) (v : List ℤ) → Sized (fresh h v)
-unfolding fresh
-fresh-sized h v = record { z = length-list-from 0 16 _; digits = length-replicate 960 (pos 0) }
 
 fresh-start : (h : Header) (v : List ℤ) → (fresh h v .busy ≡ true) × (fresh h v .k ≡ 0) × (fresh h v .header ≡ h)
 unfolding fresh
@@ -159,4 +145,4 @@ loaded-passes s e j l =
     let t = fresh (header-of s) (frame-numbers s) in
     let f = fresh-start (header-of s) (frame-numbers s) in
     passes-exactly (steps t j) .1
-    (steps-busy t j ∙ f .0, steps-sound t j (loaded-sound s e) (omega (arith, f .1, ap last-step (f .2))) (fresh-sized (header-of s) (frame-numbers s)))
+    (steps-busy t j ∙ f .0, steps-sound t j (loaded-sound s e) (omega (arith, f .1, ap last-step (f .2))))

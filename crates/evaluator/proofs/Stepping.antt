@@ -11,7 +11,7 @@ use lib.Dec.{ltb}
 use lib.IntN.{ℤ, pos}
 use lib.ListN.{length}
 use lib.Seq.{ext-getD}
-use Rattle.integers.specs.Flat.{at, flat-vector, at-flat-vector, length-list-from, getD-list-from}
+use Rattle.integers.specs.Flat.{at, flat-vector, at-flat-vector, length-list-from, getD-list-from, length-stores}
 use Rattle.integers.specs.Maximum.{le-or-lt}
 use Rattle.job.specs.Header.{radix, unit}
 use Rattle.job.specs.Limits.{steps-small}
@@ -24,7 +24,7 @@ use Rattle.state.specs.State.{last-step}
 use Rattle.state.specs.declared.State.{State}
 use Rattle.evaluator.specs.Evaluator.{last-digits, chosen-digits, left-residuals, digits-stored, one-step, steps}
 use Rattle.evaluator.proofs.Follow.{steps-header, steps-busy, steps-k, stored-same}
-use Rattle.evaluator.proofs.Kept.{Sized, steps-sized, steps-sound, ready}
+use Rattle.evaluator.proofs.Kept.{steps-sound, ready}
 
 -- ---- the digits of a step, stored and copied out again
 
@@ -60,6 +60,12 @@ unfolding steps one-step
 steps-g s zero = refl
 steps-g s (suc j) = steps-g s j
 
+length-digits : (s : State) (j : ℕ) → length (steps s j .digits) ≡ length (s .digits)
+unfolding steps one-step
+length-digits s zero = refl
+length-digits s (suc j) =
+    length-stores (steps s j .digits) (λ i. 16 * steps s j .k + i) (at (chosen-digits (steps s j))) (steps s j .header .n) ∙ length-digits s j
+
 state-is : (a : State) {b : Bool} {h : Header} {k : ℕ} {g z ds : List ℤ} → b ≡ a .busy → h ≡ a .header → k ≡ a .k → g ≡ a .g → z ≡ a .z → ds ≡ a .digits
     → record { busy = b; header = h; k = k; g = g; z = z; digits = ds } ≡ a
 state-is a eb eh ek eg ez ed = rw (eb, eh, ek, eg, ez, ed) refl
@@ -76,7 +82,7 @@ reached-end {s} {t} {j} {z} h =
 -- what holds before the first step is made: `made` are to be made, and are left
 pub record Begun (s : State) (made : ℕ) : Type 0 where
   pub sound : Sound s
-  pub room : Sized s
+  pub room : length (s .digits) ≡ 960
   pub left : s .k + made ≤ last-step (s .header)
 
 module _ {s : State} {made : ℕ} (b : Begun s made) where
@@ -88,7 +94,7 @@ module _ {s t : State} {made j : ℕ} {z before : List ℤ} (b : Begun s made) (
   S = steps s j
 
   sound : Sound S
-  sound = steps-sound s j (b .sound) (omega (arith, b .left)) (b .room)
+  sound = steps-sound s j (b .sound) (omega (arith, b .left))
 
   -- the step can be made
   pub reached-ready : Ready (s .header .n) r (s .header .p) (unit (s .header)) (t .g) z before
@@ -113,7 +119,7 @@ module _ {s t : State} {made j : ℕ} {z before : List ℤ} (b : Begun s made) (
         stored-copied (S .header .n) (S .k) (S .digits) (chosen-digits S) (sound .limits .order-most)
         (length-stepped-digits (S .header .n) (radix (S .header .code)) (S .header .p) (unit (S .header)) (S .g) (S .z) (last-digits S))
         (stepped-digit-past (S .header .n) (radix (S .header .code)) (S .header .p) (unit (S .header)) (S .g) (S .z) (last-digits S))
-        (omega (arith, steps-k s j, steps-sized s j (b .room) .digits, last-small b))
+        (omega (arith, steps-k s j, length-digits s j, b .room, last-small b))
 
     pub reached-next : Reached s (j + 1) (with-digits t ds) next chosen
     unfolding steps one-step

@@ -20,7 +20,7 @@ use Rattle.state.specs.declared.State.{State}
 use Rattle.evaluator.specs.Evaluator.{loaded, least, steps, advance-checks, advance-refusal, steps-made, advanced, state-reading, readings-checks, readings-refusal, readings-list}
 use Rattle.evaluator.proofs.Calls.{least-most}
 use Rattle.evaluator.proofs.Follow.{steps-busy, steps-k}
-use Rattle.evaluator.proofs.Kept.{Sized, passes-exactly, steps-sound}
+use Rattle.evaluator.proofs.Kept.{passes-exactly, steps-sound}
 
 -- what holds of both is so of the one chosen
 in-both : {A : Type 0} (b : Bool) {x y : A} (Q : A → Type 0) → Q x → Q y → Q (cond b x y)
@@ -100,12 +100,12 @@ module _ (s : State) (budget : ℕ) where
   made-most = in-both (eqb (advance-refusal s budget) 0) (λ j. j ≤ last-step (s .header) - s .k) (least-most budget (last-step (s .header) - s .k)) (omega arith)
 
   -- a state that passes 20 and 24 does so after advance too
-  pub advanced-passes : first-refusal (state-checks s) ≡ 0 → Sized s → first-refusal (state-checks (advanced s budget .state)) ≡ 0
+  pub advanced-passes : first-refusal (state-checks s) ≡ 0 → first-refusal (state-checks (advanced s budget .state)) ≡ 0
   unfolding advanced
-  advanced-passes e m =
+  advanced-passes e =
       let p = passes-exactly s .0 e in
       passes-exactly (steps s (steps-made s budget)) .1
-      (steps-busy s (steps-made s budget) ∙ p .0, steps-sound s (steps-made s budget) (p .1) (omega (arith, made-most, p .1 .steps)) m)
+      (steps-busy s (steps-made s budget) ∙ p .0, steps-sound s (steps-made s budget) (p .1) (omega (arith, made-most, p .1 .steps)))
 
 module _ (s : State) (out : List ℤ) where
   -- one reading a row, in row order

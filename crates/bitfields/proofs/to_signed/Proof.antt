@@ -1,12 +1,13 @@
--- `bitfields::to_signed` meets its contract: the upper half of the numbers of w bits stands for the negative ones. Assumes nothing.
-use mathlib.Core.Path.{_≡_, sym}
-use Prim.Native.Nat.{suc, _-_, _^_}
+-- `bitfields::to_signed` meets its contract: the first bit of x counts for -(2 ^ w). Assumes nothing.
 use native.Mathlib.Omega.{arith}
 use borrow.Author.Needs.{needs}
-use lib.Pow.{pow-mono}
-use Rattle.bitfields.proofs.Twos.{decode-high, decode-low, plain}
+use lib.Pow.{pow-mono, pow-pos}
+use Rattle.bitfields.proofs.Twos.{first-most, difference-fits, difference-read}
 use Rattle.bitfields.proofs.to_signed.Statement.{statement}
 use Rattle.bitfields.proofs.to_signed.Tie as tie
+
+signed-requires : tie.Need-signed-requires
+signed-requires c κs = omega (arith, pow-mono {i = c .args .w} {j = 48} (omega arith))
 
 sub-pow2 : tie.Need-sub-pow2
 sub-pow2 c = search needs
@@ -14,49 +15,44 @@ sub-pow2 c = search needs
 pow2-requires : tie.Need-pow2-requires
 pow2-requires c κs = search needs
 
-signed-requires : tie.Need-signed-requires
-signed-requires c κs = omega (arith, pow-mono {i = c .before .before .args .w} {j = 48} (omega arith))
+div-signed : tie.Need-div-signed
+div-signed c = rw (c .pow2 .ensures) (pow-pos _)
 
 pow2-requires-2 : tie.Need-pow2-requires-2
 pow2-requires-2 c κs = search needs
 
-sub-signed : tie.Need-sub-signed
-sub-signed c = search needs
-
-sub-signed-2 : tie.Need-sub-signed-2
-sub-signed-2 c = search needs
+mul-signed : tie.Need-mul-signed
+mul-signed c =
+    let s = c .before .before .before in
+    rw (c .before .pow2 .ensures, c .pow22 .ensures) (omega (arith, first-most (s .args .w) (s .args .x) (s .pre .0) (s .pre .1) (s .pre .2)))
 
 signed-requires-2 : tie.Need-signed-requires-2
-signed-requires-2 c κs = omega (arith, pow-mono {i = c .before .before .before .args .w} {j = 48} (omega arith))
+signed-requires-2 c κs =
+    let s = c .before .before .before in
+    rw (c .before .pow2 .ensures, c .pow22 .ensures) (first-most (s .args .w) (s .args .x) (s .pre .0) (s .pre .1) (s .pre .2))
 
-flip-requires : tie.Need-flip-requires
-flip-requires c κs = search needs
+sub-result : tie.Need-sub-result
+sub-result c =
+    let s = c .before .before .before .before in
+    difference-fits (s .args .w) (s .args .x) (c .before .before .before .signed .result) (c .signed2 .result) (s .pre .0) (s .pre .1) (s .pre .2)
+    (c .before .before .before .signed .ensures) (rw (c .before .before .pow2 .ensures, c .before .pow22 .ensures) at (c .signed2 .ensures))
 
 returns : tie.Need-returns
 returns c =
-    let a = c .before .before .before .args in
-    rw (plain _ (c .signed .ok), c .signed .ensures)
-    (sym (decode-low (a .w) (a .x) (rw (c .before .before .pow2 .ensures) at (c .before .if1 .taken))))
-
-returns-2 : tie.Need-returns-2
-returns-2 c =
-    let b = c .before .before .before .before in
-    let a = b .before .args in
-    let e : c .before .before .pow22 .result - 1 - a .x ≡ 2 ^ a .w - suc (a .x) = omega arith in
-    rw (plain _ (c .flip .ok), c .flip .ensures, plain _ (c .before .signed2 .ok), c .before .signed2 .ensures, e)
-    (sym (decode-high (a .w) (a .x) (rw (b .pow2 .ensures) at (c .before .before .before .if1 .left))))
+    let s = c .before .before .before .before in
+    difference-read (s .args .w) (s .args .x) (c .before .before .before .signed .result) (c .signed2 .result) (s .pre .0) (s .pre .1) (s .pre .2)
+    (c .before .before .before .signed .ensures) (rw (c .before .before .pow2 .ensures, c .before .pow22 .ensures) at (c .signed2 .ensures))
 
 pub to-signed-spec : {M : Type 1} → statement M
 to-signed-spec =
     tie.close
     (tie.spec
+    signed-requires
     sub-pow2
     pow2-requires
-    signed-requires
+    div-signed
     pow2-requires-2
-    sub-signed
-    sub-signed-2
+    mul-signed
     signed-requires-2
-    flip-requires
-    returns
-    returns-2)
+    sub-result
+    returns)

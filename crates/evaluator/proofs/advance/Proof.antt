@@ -4,12 +4,11 @@ use mathlib.Core.List.{map}
 use Prim.Native.Nat.{_-_, _<_, _≤_}
 use native.Mathlib.Omega.{arith}
 use borrow.Kind.Array.{good-length, eSInt}
-use lib.ListN.{length-map}
-use mir.Syntax.{w8, w64}
+use lib.ListN.{length, length-map}
+use mir.Syntax.{w8}
 use Rattle.state.specs.Sound.{Sound}
 use Rattle.state.specs.State.{last-step}
 use Rattle.evaluator.proofs.Calls.{least-most, advance-refuses, advance-makes, advance-takes}
-use Rattle.evaluator.proofs.Kept.{Sized}
 use Rattle.evaluator.proofs.Stepping.{Reached, Begun, last-small, reached-start, reached-ready, reached-next, reached-end}
 use Rattle.evaluator.proofs.advance.Statement.{statement}
 use Rattle.evaluator.proofs.advance.Tie as tie
@@ -25,14 +24,11 @@ abbrev μ-loop : tie.MeasureT-loop
 abbrev start : tie.After-advance-refusal Inv-loop μ-loop → tie.Start Inv-loop μ-loop
 start c = c .before .before .before .before .before .before .before
 
--- the state's arrays are as long as their types say
-sized : (c : tie.Start Inv-loop μ-loop) → Sized (c .args .s)
-sized c =
-    let s = c .args .s in
-    record {
-      z = sym (length-map (s .z) (λ x. x)) ∙ good-length (eSInt w64) 16 (map (λ x. x) (s .z)) _ (c .good .0 .1 .1 .1 .1 .1 .1 .0);
-      digits = sym (length-map (s .digits) (λ x. x)) ∙ good-length (eSInt w8) 960 (map (λ x. x) (s .digits)) _ (c .good .0 .1 .1 .1 .1 .1 .1 .1 .0);
-    }
+-- the array of digits is as long as its type says
+room : (c : tie.Start Inv-loop μ-loop) → length (c .args .s .digits) ≡ 960
+room c =
+    let ds = c .args .s .digits in
+    sym (length-map ds (λ x. x)) ∙ good-length (eSInt w8) 960 (map (λ x. x) ds) _ (c .good .0 .1 .1 .1 .1 .1 .1 .1 .0)
 
 accepted : (c : tie.Then1 Inv-loop μ-loop) → let s = start (c .before) .args .s in Sound s × (s .k < last-step (s .header))
 accepted c =
@@ -46,7 +42,7 @@ begun c =
     let h = accepted t in
     record {
       sound = h .0;
-      room = sized (start (t .before));
+      room = room (start (t .before));
       left = omega (arith, h .1, c .least .ensures, least-most (a .budget) (last-step (a .s .header) - a .s .k));
     }
 

@@ -1,0 +1,168 @@
+-- What the checks of traces come to, as facts: a valid record passes every check that looks neither at bytes nor at a buffer, an accepted trace is the
+-- bytes of a valid record, and the writer takes the valid records that its buffer has room for. Cited by `RoundTrip`, `Theorems` and the proofs of the
+-- functions.
+use mathlib.Core.Path.{_≡_, refl}
+use mathlib.Core.Bool.{Bool, true, false, not}
+use mathlib.Core.List.{List}
+use mathlib.Core.Logic.{_↔_}
+use Prim.Native.Nat.{ℕ, _-_, _<_, _≤_}
+use native.Mathlib.Omega.{arith}
+use borrow.Author.Tests.{eq-eqb}
+use lib.Arith.{le→nltb}
+use lib.Dec.{T, eqb, eqb→eq, nltb→le}
+use lib.IntN.{ℤ, pos, negsuc, natAbs}
+use lib.ListN.{length}
+use Rattle.integers.specs.Flat.{entry}
+use Rattle.bitfields.specs.Layout.{fill, field}
+use Rattle.bitfields.specs.Twos.{Fits, AllFit}
+use Rattle.job.specs.Header.{header-checks, read-checks}
+use Rattle.job.specs.Refusal.{None, none, also, accepted-exactly}
+use Rattle.job.specs.Limits.{Limits, limits-exactly, digit-small, steps-small}
+use Rattle.job.specs.declared.Header.{Header}
+use Rattle.frame.specs.Frame.{header-of}
+use Rattle.frame.specs.Valid.{header-is}
+use Rattle.state.specs.State.{last-step, breaks-limit, state-checks}
+use Rattle.state.specs.declared.State.{State}
+use Rattle.state.proofs.Digits.{beyond-false}
+use Rattle.state.proofs.Sound.{sound-exactly}
+use Rattle.trace.specs.Trace.{digit-list, trace-bits, trace-length, steps-of, trace-digits, digit-beyond, trace-checks, trace-refusal, trace-record, state-refusal, writer-checks, writer-refusal}
+use Rattle.trace.specs.Digits.{list-fits}
+use Rattle.trace.specs.Groups.{StepsFit}
+use Rattle.trace.specs.Part.{record-of}
+use Rattle.trace.specs.declared.Record.{Record}
+
+-- a header within its limits, no more steps than the job has, and no digit beyond p
+pub record Valid (t : Record) : Type 0 where
+  pub limits : Limits (t .header)
+  pub steps : t .k ≤ last-step (t .header)
+  pub within : (j i : ℕ) → j < t .k → i < t .header .n → natAbs (entry (t .digits) j i) ≤ t .header .p
+
+-- bytes that spell a valid record: as long as its fields demand, with zeros to the byte
+pub record Accepted (s : List ℕ) : Type 0 where
+  pub size : length s ≡ trace-length (header-of s) (steps-of s)
+  pub zeros : field s (trace-bits (header-of s) (steps-of s)) (fill (trace-bits (header-of s) (steps-of s))) ≡ 0
+  pub valid : Valid (trace-record s)
+
+-- ---- digits within p
+
+pub beyond-not : (h : Header) (k : ℕ) (ds : List ℤ) → (digit-beyond h k ds ≡ false) ↔ ((j i : ℕ) → j < k → i < h .n → natAbs (entry ds j i) ≤ h .p)
+beyond-not h k ds =
+    let b = beyond-false (h .n) (h .p) ds 0 k in
+    ((λ e j i l m. b .0 e i m j (omega arith) (omega arith)), (λ f. b .1 (λ i m j g l. f j i (omega arith) m)))
+
+fits-five : (z : ℤ) → natAbs z ≤ 15 → Fits 5 z
+fits-five (pos n) h = record { size = omega arith }
+fits-five (negsuc n) h = record { size = omega arith }
+
+module _ {t : Record} (a : Valid t) where
+  pub order-some : 0 < t .header .n
+  order-some = a .limits .order-least
+
+  pub steps-most : t .k ≤ 60
+  steps-most = omega (arith, a .steps, steps-small (t .header) (a .limits))
+
+  -- 5 bits hold them
+  pub steps-fit : StepsFit (t .header .n) (t .k) (t .digits)
+  steps-fit = record { step-fits = λ j i l m. fits-five (entry (t .digits) j i) (omega (arith, a .within j i l m, digit-small (t .header) (a .limits))) }
+
+  pub fit-digits : AllFit 5 (digit-list (t .header .n) (t .k) (t .digits))
+  fit-digits = list-fits steps-fit order-some
+
+-- ---- the checks as facts
+
+-- an equality that is not found to fail
+pub equal : (a b : ℕ) → T (not (not (eqb a b))) → a ≡ b
+equal a b t = eqb→eq a b (double (eqb a b) t)
+  where
+    double : (c : Bool) → T (not (not c)) → T c
+    double true t = tt
+    double false t = absurd t
+
+not-unequal : (a b : ℕ) → a ≡ b → T (not (not (eqb a b)))
+not-unequal a b e = rw (eq-eqb a b e) tt
+
+fails : (c : Bool) → T (not c) → c ≡ false
+fails true t = absurd t
+fails false t = refl
+
+not-failed : (c : Bool) → c ≡ false → T (not c)
+not-failed c e = rw e tt
+
+none-accepted : (s : List ℕ) → None (trace-checks s) → Accepted s
+unfolding trace-checks trace-record
+none-accepted s (also t₁ (also t₂ (also t₃ (also t₄ (also t₅ (also t₁₀ (also t₆ (also t₇ (also t₁₁ none))))))))) =
+    let h = header-of s in
+    record {
+      size = equal (length s) (trace-length h (steps-of s)) t₆;
+      zeros = equal (field s (trace-bits h (steps-of s)) (fill (trace-bits h (steps-of s)))) 0 t₇;
+      valid = record {
+        limits = header-is s .0 (accepted-exactly (read-checks h) tt .1 (also t₂ (also t₃ (also t₄ (also t₅ none)))));
+        steps = nltb→le (last-step h) (steps-of s) t₁₀;
+        within = beyond-not h (steps-of s) (trace-digits s) .0 (fails (digit-beyond h (steps-of s) (trace-digits s)) t₁₁);
+      };
+    }
+
+accepted-none : (s : List ℕ) → Accepted s → None (trace-checks s)
+unfolding trace-checks trace-record
+accepted-none s a = with-header (accepted-exactly (read-checks (header-of s)) tt .0 (header-is s .1 (a .valid .limits)))
+  where
+    with-header : None (read-checks (header-of s)) → None (trace-checks s)
+    with-header (also t₂ (also t₃ (also t₄ (also t₅ none)))) =
+        also (le→nltb (length s) 4 (omega (arith, a .size)))
+        (also t₂ (also t₃ (also t₄ (also t₅
+        (also (le→nltb (last-step (header-of s)) (steps-of s) (a .valid .steps))
+        (also (not-unequal (length s) (trace-length (header-of s) (steps-of s)) (a .size))
+        (also (not-unequal _ 0 (a .zeros))
+        (also (not-failed (digit-beyond (header-of s) (steps-of s) (trace-digits s)) (beyond-not (header-of s) (steps-of s) (trace-digits s) .1 (a .valid .within))) none))))))))
+
+-- a trace is accepted exactly when it is the bytes of a valid record
+pub accepted-is : (s : List ℕ) → (trace-refusal s ≡ 0) ↔ Accepted s
+unfolding trace-checks
+accepted-is s =
+    ((λ e. none-accepted s (accepted-exactly (trace-checks s) tt .0 e)), (λ a. accepted-exactly (trace-checks s) tt .1 (accepted-none s a)))
+
+none-taken : (t : Record) (room : ℕ) → None (writer-checks t room) → Valid t × (trace-length (t .header) (t .k) ≤ room)
+unfolding writer-checks
+none-taken t room (also t₂ (also t₁₄ (also t₃ (also t₄ (also t₅ (also t₁₀ (also t₁₁ (also t₂₃ none)))))))) =
+    let h = t .header in (
+      record {
+        limits = limits-exactly h .0 (accepted-exactly (header-checks h) tt .1 (also t₂ (also t₁₄ (also t₃ (also t₄ (also t₅ none))))));
+        steps = nltb→le (last-step h) (t .k) t₁₀;
+        within = beyond-not h (t .k) (t .digits) .0 (fails (digit-beyond h (t .k) (t .digits)) t₁₁);
+      },
+      nltb→le room (trace-length h (t .k)) t₂₃,
+    )
+
+taken-none : (t : Record) (room : ℕ) → Valid t → trace-length (t .header) (t .k) ≤ room → None (writer-checks t room)
+unfolding writer-checks
+taken-none t room a r = with-header (accepted-exactly (header-checks (t .header)) tt .0 (limits-exactly (t .header) .1 (a .limits)))
+  where
+    with-header : None (header-checks (t .header)) → None (writer-checks t room)
+    with-header (also t₂ (also t₁₄ (also t₃ (also t₄ (also t₅ none))))) =
+        also t₂ (also t₁₄ (also t₃ (also t₄ (also t₅
+        (also (le→nltb (last-step (t .header)) (t .k) (a .steps))
+        (also (not-failed (digit-beyond (t .header) (t .k) (t .digits)) (beyond-not (t .header) (t .k) (t .digits) .1 (a .within)))
+        (also (le→nltb room (trace-length (t .header) (t .k)) r) none)))))))
+
+-- the writer takes exactly the valid records that its buffer has room for
+pub taken-is : (t : Record) (room : ℕ) → (writer-refusal t room ≡ 0) ↔ (Valid t × (trace-length (t .header) (t .k) ≤ room))
+unfolding writer-checks
+taken-is t room = (
+  (λ e. none-taken t room (accepted-exactly (writer-checks t room) tt .0 e)),
+  (λ a. accepted-exactly (writer-checks t room) tt .1 (taken-none t room (a .0) (a .1))),
+)
+
+-- ---- the record of a state
+
+-- the header, the steps and the digits of a state, as they stand in it
+abbrev pub untrimmed : State → Record
+untrimmed s = record-of (s .header) (s .k) (s .digits)
+
+-- a state that is refused by neither 20 nor 24
+pub recorded-valid : (s : State) → state-refusal s ≡ 0 → Valid (untrimmed s)
+recorded-valid s e = by-parts (accepted-exactly (state-checks s) tt .0 e)
+  where
+    by-parts : None (state-checks s) → Valid (untrimmed s)
+    by-parts (also t₂₀ (also t₂₄ none)) =
+        let p = sound-exactly s .0 (fails (breaks-limit s) t₂₄) in
+        record { limits = p .limits; steps = p .steps; within = p .made }
