@@ -1,0 +1,46 @@
+-- Document 01's example: what `edigits` prints for its case A, and two refused frames. Computed from the definitions.
+use mathlib.Core.Path.{_≡_, refl}
+use mathlib.Core.List.{List, [], _∷_, _++_}
+use Prim.Native.Nat.{ℕ}
+use Rattle.integers.specs.Flat.{list-from, stores}
+use Rattle.integers.specs.Product.{dot, weight}
+use Rattle.integers.specs.Sum.{sum, total}
+use Rattle.bitfields.specs.Layout.{field, number, bits, run}
+use Rattle.bitfields.specs.Twos.{decode}
+use Rattle.job.specs.Rows.{first-row-from}
+use Rattle.job.specs.System.{curve-entry, matrix, right-side}
+use Rattle.frame.specs.Frame.{frame-checks}
+use Rattle.recurrence.specs.Flat.{stepped-digits, stepped-residuals}
+use Rattle.recurrence.specs.Recurrence.{shifted, next-digit, next-residual, reading}
+use Rattle.recurrence.specs.Selection.{select, digit-size}
+use Rattle.state.specs.State.{fresh}
+use Rattle.evaluator.specs.Evaluator.{steps, one-step}
+use Rattle.text.specs.Text.{decimal-within, signed-decimal, line-end}
+use Rattle.printout.specs.Printout.{items-from, step-lines, refused-word, frame-text}
+
+-- A
+case-a : frame-text (1 ∷ 16 ∷ 68 ∷ 16 ∷ 50 ∷ 0 ∷ [])
+    -- 0 2 1 4 2 4
+    ≡ (48 ∷ 32 ∷ 50 ∷ 32 ∷ 49 ∷ 32 ∷ 52 ∷ 32 ∷ 50 ∷ 32 ∷ 52 ∷ 10 ∷ [])
+    -- 1 0 1
+    ++ (49 ∷ 32 ∷ 48 ∷ 32 ∷ 49 ∷ 10 ∷ [])
+    -- 2 1 0
+    ++ (50 ∷ 32 ∷ 49 ∷ 32 ∷ 48 ∷ 10 ∷ [])
+    -- 3 1 0
+    ++ (51 ∷ 32 ∷ 49 ∷ 32 ∷ 48 ∷ 10 ∷ [])
+    -- 4 -1 0
+    ++ (52 ∷ 32 ∷ 45 ∷ 49 ∷ 32 ∷ 48 ∷ 10 ∷ [])
+    -- = 5 8
+    ++ (61 ∷ 32 ∷ 53 ∷ 32 ∷ 56 ∷ 10 ∷ [])
+unfolding frame-text frame-checks field number bits run decode first-row-from weight total curve-entry matrix right-side list-from fresh steps one-step stepped-digits stepped-residuals shifted next-digit next-residual dot sum select digit-size stores reading decimal-within signed-decimal line-end items-from step-lines
+case-a = refl
+
+-- D: refused 8 1
+case-d : frame-text (1 ∷ 16 ∷ 68 ∷ 20 ∷ 50 ∷ 0 ∷ []) ≡ refused-word ++ (32 ∷ 56 ∷ 32 ∷ 49 ∷ 10 ∷ [])
+unfolding frame-text frame-checks field number bits run decode first-row-from weight total curve-entry matrix decimal-within line-end
+case-d = refl
+
+-- an empty frame: refused 1
+case-h : frame-text [] ≡ refused-word ++ (32 ∷ 49 ∷ 10 ∷ [])
+unfolding frame-text frame-checks decimal-within line-end
+case-h = refl

@@ -1,0 +1,52 @@
+-- What `edigits` prints for a frame (document 01, "Frames and digits"): a line kind, r, p, f, n, m; a line for each step, its number and the digits by row;
+-- a line `=` and the readings. A refused frame prints one line: `refused`, the number, and the row for 8 and 9.
+use mathlib.Core.Bool.{cond, _||_}
+use mathlib.Core.List.{List, [], _∷_, _++_}
+use Prim.Native.Nat.{ℕ, zero, suc}
+use lib.Dec.{eqb}
+use lib.IntN.{ℤ}
+use Rattle.job.specs.Header.{radix}
+use Rattle.job.specs.declared.Header.{Header}
+use Rattle.frame.specs.Frame.{frame-refusal, row-of, header-of, frame-numbers}
+use Rattle.state.specs.Digits.{digits-of}
+use Rattle.state.specs.State.{last-step, fresh}
+use Rattle.state.specs.declared.State.{State}
+use Rattle.evaluator.specs.Evaluator.{steps, state-reading}
+use Rattle.text.specs.Text.{decimal, signed-decimal, line}
+
+-- f i, f (i + 1), .. , k of them, in decimal
+unfoldable pub items-from : ℕ → ℕ → (ℕ → ℤ) → List (List ℕ)
+items-from i zero f = []
+items-from i (suc k) f = signed-decimal (f i) ∷ items-from (suc i) k f
+
+abbrev pub header-line : Header → List ℕ
+header-line h = line (decimal (h .kind)) (decimal (radix (h .code)) ∷ decimal (h .p) ∷ decimal (h .f) ∷ decimal (h .n) ∷ decimal (h .m) ∷ [])
+
+-- the line of step j, from 1
+abbrev pub step-line : State → ℕ → List ℕ
+step-line s j = line (decimal j) (items-from 0 (s .header .n) (digits-of (s .digits) j))
+
+-- the lines of k steps from step j on
+unfoldable pub step-lines : State → ℕ → ℕ → List ℕ
+step-lines s j zero = []
+step-lines s j (suc k) = step-line s j ++ step-lines s (suc j) k
+
+-- 61 is `=`
+abbrev pub readings-line : State → List ℕ
+readings-line s = line (61 ∷ []) (items-from 0 (s .header .n) (state-reading s))
+
+-- of a job with all its steps made
+abbrev pub job-text : State → List ℕ
+job-text s = header-line (s .header) ++ step-lines s 1 (s .k) ++ readings-line s
+
+-- refused
+abbrev pub refused-word : List ℕ
+refused-word = 114 ∷ 101 ∷ 102 ∷ 117 ∷ 115 ∷ 101 ∷ 100 ∷ []
+
+abbrev pub refused-text : ℕ → ℕ → List ℕ
+refused-text c row = line refused-word (decimal c ∷ cond (eqb c 8 || eqb c 9) (decimal row ∷ []) [])
+
+unfoldable pub frame-text : List ℕ → List ℕ
+frame-text s =
+    cond (eqb (frame-refusal s) 0) (job-text (steps (fresh (header-of s) (frame-numbers s)) (last-step (header-of s))))
+    (refused-text (frame-refusal s) (row-of (frame-refusal s) (header-of s) (frame-numbers s)))
