@@ -1,5 +1,5 @@
-// edigits: reads one frame from standard input and prints its text. A frame has at most 1,431 bytes, so what is past the buffer's 4,096 changes nothing:
-// an input that long is refused by its first bytes or by its length.
+// edigits: reads one frame from standard input and prints its text. No frame has more than 1,431 bytes, so the bytes past the 4,096 that are kept
+// change nothing (the law cut-text of the printout).
 fn main() {
     let mut input = io::buffer();
     let n = io::read_full(0, &mut input);

@@ -1,15 +1,14 @@
 -- Jobs: what a state that passes 20 and 24 gives for its printout, that its readings are not refused, and how long its lines are. Cited by the proofs
 -- of the functions that put a whole job.
 use mathlib.Core.Path.{_≡_, refl, sym, ap, _∙_}
-use mathlib.Core.Bool.{Bool, false}
-use mathlib.Core.List.{List, [], _∷_, _++_, map}
+use mathlib.Core.List.{List, [], _∷_, map}
 use Prim.Native.Nat.{ℕ, zero, suc, _+_, _*_, _<_, _≤_}
 use native.Mathlib.Omega.{arith}
 use borrow.Author.Tests.{le-ltb}
 use lib.IntN.{ℤ, pos}
-use lib.ListN.{length, take, length-append}
+use lib.ListN.{length, length-append}
 use lib.Seq.{getD-take}
-use Rattle.integers.specs.Flat.{at, list-from, getD-list-from}
+use Rattle.integers.specs.Flat.{at, getD-list-from}
 use Rattle.job.specs.Header.{radix}
 use Rattle.job.specs.Limits.{steps-small}
 use Rattle.job.specs.Refusal.{first-refusal, accepted-before}
@@ -20,7 +19,7 @@ use Rattle.state.specs.declared.State.{State}
 use Rattle.evaluator.specs.Evaluator.{state-reading, list-too-short, readings-checks, readings-refusal, readings-list}
 use Rattle.evaluator.proofs.Kept.{passes-exactly}
 use Rattle.evaluator.proofs.Theorems.{readings-front}
-use Rattle.text.specs.Text.{decimal, signed-decimal, line-end, Put}
+use Rattle.text.specs.Text.{decimal, line-end, Put}
 use Rattle.text.proofs.Putting.{length-decimal}
 use Rattle.printout.specs.Printout.{items-from, header-line}
 
@@ -70,6 +69,7 @@ module _ (s : State) (p : first-refusal (state-checks s) ≡ 0) where
       let z : 0 + i ≡ i = omega arith in
       rw e (sym (getD-take n (readings-list s out) i (pos 0) l) ∙ f ∙ rw z at (getD-list-from 0 n (state-reading s) i l))
 
-  pub readings-put : {buf after : List ℕ} {m end : ℕ} (y out : List ℤ) → 16 ≤ length out → y ≡ readings-list s out → Put buf m (line-end (items-from 0 (s .header .n) (at y))) after end
+  pub readings-put : {buf after : List ℕ} {m end : ℕ} (y out : List ℤ) → 16 ≤ length out → y ≡ readings-list s out
+      → Put buf m (line-end (items-from 0 (s .header .n) (at y))) after end
       → Put buf m (line-end (items-from 0 (s .header .n) (state-reading s))) after end
   readings-put y out h e q = rw (items-ext 0 (s .header .n) (at y) (state-reading s) (λ j a l. reading-at y out j h e (omega arith))) at q

@@ -1,3 +1,4 @@
 pub mod Lines
 pub mod Jobs
 pub mod Frames
+pub mod Longer

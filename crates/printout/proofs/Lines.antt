@@ -1,5 +1,5 @@
 -- Lines of items put into a buffer one after the other. Cited by the proofs of the functions that put the lines.
-use mathlib.Core.Path.{_≡_, refl, sym, ap, _∙_}
+use mathlib.Core.Path.{_≡_, sym, ap, _∙_}
 use mathlib.Core.Bool.{Bool, true, false, _||_}
 use mathlib.Core.List.{List, [], _∷_, _++_, append-assoc, append-nil}
 use Prim.Native.Nat.{ℕ, zero, suc, _+_, _*_, _^_, _<_, _≤_}
@@ -7,13 +7,13 @@ use native.Mathlib.Numerals.{add-one}
 use native.Mathlib.Omega.{arith}
 use lib.Dec.{eqb}
 use lib.IntN.{ℤ}
+use lib.ListN.{length, length-append}
 use lib.Signed.{mag}
 use mir.Syntax.{w8, w64}
 use mir.Val.{toZ, ofZ}
-use mir.Facts.{toZ-ofZ}
-use lib.ListN.{length, length-append}
 use Rattle.state.specs.Digits.{digits-of}
 use Rattle.state.specs.declared.State.{State}
+use Rattle.evaluator.proofs.Arrays.{digit-kept, number-kept}
 use Rattle.text.specs.Text.{decimal, signed-decimal, line-end, Room, Put}
 use Rattle.text.proofs.Putting.{put-nothing, put-then, length-decimal, length-signed}
 use Rattle.printout.specs.Printout.{items-from, step-line, step-lines, refused-word, refused-text}
@@ -44,12 +44,9 @@ spaced-line n f = let e : 0 + n ≡ n = omega arith in rw e at (spaced-end 0 n f
 
 -- ---- a line's items put one after the other
 
--- a number is what was read, and so is a digit that is widened
-pub number-read : (y : ℤ) → mag y < 2 ^ 63 → toZ w64 (ofZ w64 y) ≡ y
-number-read y k = toZ-ofZ {w = w64} {z = y} (record { sfits = k })
-
+-- a digit that is widened is what was read
 pub digit-read : (x y : ℤ) → mag x < 2 ^ 7 → mag y < 2 ^ 63 → y ≡ toZ w8 (ofZ w8 x) → toZ w64 (ofZ w64 y) ≡ x
-digit-read x y h k e = number-read y k ∙ e ∙ toZ-ofZ {w = w8} {z = x} (record { sfits = h })
+digit-read x y h k e = number-kept y k ∙ e ∙ digit-kept x h
 
 module _ {out : List ℕ} {at : ℕ} (f : ℕ → ℤ) where
   pub spaced-start : Put out at (spaced 0 f) out at
@@ -64,11 +61,13 @@ module _ {out : List ℕ} {at : ℕ} (f : ℕ → ℤ) where
     pub end-room : i ≤ 16 → m + 1 ≤ length mid
     end-room l = omega (arith, p .ends, length-spaced i f)
 
-  pub spaced-next : {mid after : List ℕ} {i m end : ℕ} {z : ℤ} → z ≡ f i → Put out at (spaced i f) mid m → Put mid m (32 ∷ signed-decimal z) after end → Put out at (spaced (i + 1) f) after end
+  pub spaced-next : {mid after : List ℕ} {i m end : ℕ} {z : ℤ} → z ≡ f i → Put out at (spaced i f) mid m
+      → Put mid m (32 ∷ signed-decimal z) after end → Put out at (spaced (i + 1) f) after end
   unfolding spaced
   spaced-next {i = i} e p q = rw (add-one i, ← e) (put-then p q)
 
-  pub spaced-all : {mid after : List ℕ} {i m n end : ℕ} → i ≡ n → Put out at (spaced i f) mid m → Put mid m (10 ∷ []) after end → Put out at (line-end (items-from 0 n f)) after end
+  pub spaced-all : {mid after : List ℕ} {i m n end : ℕ} → i ≡ n → Put out at (spaced i f) mid m
+      → Put mid m (10 ∷ []) after end → Put out at (line-end (items-from 0 n f)) after end
   spaced-all {i = i} e p q = rw (← e, spaced-line i f) (put-then p q)
 
 -- ---- the lines of steps, of which those of the first t are put

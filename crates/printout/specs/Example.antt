@@ -1,7 +1,6 @@
 -- Document 01's example: what `edigits` prints for its case A, and two refused frames. Computed from the definitions.
 use mathlib.Core.Path.{_≡_, refl}
-use mathlib.Core.List.{List, [], _∷_, _++_}
-use Prim.Native.Nat.{ℕ}
+use mathlib.Core.List.{[], _∷_, _++_}
 use Rattle.integers.specs.Flat.{list-from, stores}
 use Rattle.integers.specs.Product.{dot, weight}
 use Rattle.integers.specs.Sum.{sum, total}

@@ -20,7 +20,7 @@ ghost use Rattle.state.specs.State.{state-checks};
 ghost use Rattle.text.specs.Text.{decimal, line, line-end, with-text, Put};
 ghost use Rattle.printout.specs.Printout.{items-from, header-line, step-lines, readings-line, job-text, refused-text, frame-text};
 
-// p, f, n and m, each after a space, and the newline. A number has at most 20 digits.
+// p, f, n and m, each after a space, and the newline. Here and below a number is given 20 digits, and a sign.
 fn put_fields(out: &mut [u8], at: usize, h: Header) -> usize
     requires { ⌜ at + 85 ≤ length (now out) ⌝ }
     ensures { λ r. ⌜ Put (now (out .entry)) at (line-end (decimal (h .p) ∷ decimal (h .f) ∷ decimal (h .n) ∷ decimal (h .m) ∷ [])) (now (out .exit)) r ⌝ }
@@ -42,7 +42,7 @@ fn put_header(out: &mut [u8], at: usize, h: Header) -> usize
     put_fields(out, b, h)
 }
 
-// The digits of step t + 1 by row, and the newline.
+// The digits of step t + 1 by row, each after a space, and the newline: at most 16 of 22 bytes.
 fn put_digits(out: &mut [u8], at: usize, digits: &[i8; 960], t: usize, n: usize) -> usize
     requires { ⌜ (t < 60) × (n ≤ 16) × (at + 353 ≤ length (now out)) ⌝ }
     ensures { λ r. ⌜ Put (now (out .entry)) at (line-end (items-from 0 n (digits-of (now (digits .entry)) (suc t)))) (now (out .exit)) r ⌝ }
@@ -65,7 +65,7 @@ fn put_step(out: &mut [u8], at: usize, digits: &[i8; 960], t: usize, n: usize) -
     put_digits(out, from, digits, t, n)
 }
 
-// The lines of all steps made.
+// The lines of all steps made: at most 60 of 373 bytes.
 fn put_steps(out: &mut [u8], at: usize, s: State) -> usize
     requires { ⌜ (s .header .n ≤ 16) × (s .k ≤ 60) × (at + 22380 ≤ length (now out)) ⌝ }
     ensures { λ r. ⌜ Put (now (out .entry)) at (step-lines s 1 (s .k)) (now (out .exit)) r ⌝ }
@@ -116,13 +116,13 @@ fn put_refused(out: &mut [u8], at: usize, c: usize, row: usize) -> usize
     put_byte(out, number, b'\n')
 }
 
-// The line `=` and the readings.
+// The line `=` and the readings, which are not refused.
 fn put_readings(out: &mut [u8], at: usize, s: State) -> usize
     requires { ⌜ (first-refusal (state-checks s) ≡ 0) × (at + 354 ≤ length (now out)) ⌝ }
     ensures { λ r. ⌜ Put (now (out .entry)) at (readings-line s) (now (out .exit)) r ⌝ }
 {
     let mut y = [0i64; 16];
-    let refusal = evaluator::readings(s, &mut y);
+    evaluator::readings(s, &mut y);
     let from = put_byte(out, at, b'=');
     put_numbers(out, from, &y, s.header.n)
 }
@@ -137,7 +137,9 @@ fn put_job(out: &mut [u8], s: State) -> usize
     put_readings(out, b, s)
 }
 
-// Prints a frame: what the whole buffer holds afterwards is its text, and then the bytes that were there. The answer is the text's length.
+// Prints the frame s: its text stands at the front of the buffer, and the bytes past it stay. The answer is the text's length. The room asked
+// for is more than any text takes: a header of 126 bytes, 60 lines of 373 and one of 354. No job has more than 60 steps, so that budget makes
+// them all.
 pub fn print_frame(s: &[u8], out: &mut [u8]) -> usize
     requires { ⌜ 32768 ≤ length (now out) ⌝ }
     ensures { λ r. ⌜ r ≡ length (frame-text (now (s .entry))) ⌝ }

@@ -21,11 +21,12 @@ use Rattle.trace.specs.Trace.{digit-beyond, wrong-length, fill-bit-set, 
 use Rattle.trace.specs.Part.{record-of, part-bits, part-steps, part-digits, part-wrong-length, part-fill-bit-set, size-checks, rest-checks, rest-answer, refused-by, part-answer, part-whole}
 use Rattle.trace.specs.Valid.{equal}
 use Rattle.trace.specs.declared.Recorded.{Recorded}
+use Rattle.trace.proofs.Steps.{place-small}
 
 -- ---- sizes
 
 pub digits-most : {h : Header} {k : ℕ} → Limits h → k ≤ h .m → h .n * k ≤ 960
-digits-most {h} {k} l g = mul-le-mul {n₁ = h .n} {m₁ = k} {n₂ = 16} {m₂ = 60} (l .order-most) (omega (arith, steps-small h l))
+digits-most {h} {k} l g = place-small (h .n) k (l .order-most) (omega (arith, steps-small h l))
 
 -- of any number of 6 bits
 pub digits-few : {h : Header} {k : ℕ} → Limits h → k < 64 → h .n * k ≤ 1008

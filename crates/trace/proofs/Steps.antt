@@ -22,7 +22,7 @@ use Rattle.trace.specs.Groups.{digits-from, digit-in, digits-in, digit-f
 
 -- ---- lists
 
-pub list-from-more : (i k : ℕ) (f : ℕ → ℤ) → list-from i (suc k) f ≡ list-from i k f ++ (f (i + k) ∷ [])
+list-from-more : (i k : ℕ) (f : ℕ → ℤ) → list-from i (suc k) f ≡ list-from i k f ++ (f (i + k) ∷ [])
 unfolding list-from
 list-from-more i zero f = let e : i + 0 ≡ i = omega arith in rw e
 list-from-more i (suc k) f = let e : i + suc k ≡ suc i + k = omega arith in rw e (ap (λ (l : List ℤ). f i ∷ l) (list-from-more (suc i) k f))
@@ -66,7 +66,7 @@ module _ {ds : List ℤ} {i c : ℕ} (a : FiveBits ds i c) where
 
 -- ---- a group of digits read as one field
 
-pub numbers-append : (s : List ℕ) (p w n m : ℕ) → numbers s p w (n + m) ≡ numbers s p w n ++ numbers s (p + w * n) w m
+numbers-append : (s : List ℕ) (p w n m : ℕ) → numbers s p w (n + m) ≡ numbers s p w n ++ numbers s (p + w * n) w m
 numbers-append s p w n m = ap (map (decode w)) (run-append s p w n m) ∙ map-append (decode w) (run s p w n) (run s (p + w * n) w m)
 
 pub digits-read : (s : List ℕ) (p c v : ℕ) → p + 5 * c ≤ 8 * length s → v ≡ field s p (5 * c) → digits-in c v ≡ numbers s p 5 c

@@ -31,16 +31,16 @@ use Rattle.trace.proofs.Steps.{digits-more, front-fits}
 
 -- ---- fields after fields
 
-pub appended-none : (m : ℕ) (a : List ℕ) → Appended m [] a a
+appended-none : (m : ℕ) (a : List ℕ) → Appended m [] a a
 appended-none m a = record { more = λ s fs k h e d. d ∙ ap (written s) (sym (append-nil fs)) }
 
 -- fields that are put as one field
-pub appended-one : (m : ℕ) (gs : List Field) (a b : List ℕ) (w v : ℕ) → w ≡ bits gs → v ≡ number gs → b ≡ put a m ((w, v) ∷ []) → Appended m gs a b
+appended-one : (m : ℕ) (gs : List Field) (a b : List ℕ) (w v : ℕ) → w ≡ bits gs → v ≡ number gs → b ≡ put a m ((w, v) ∷ []) → Appended m gs a b
 appended-one m gs a b w v e d f = record {
   more = λ s fs k h q p. f ∙ rw (e, d, put-one a m gs, p, ← q) (put-written gs k h);
 }
 
-pub appended-more : {m : ℕ} {gs hs : List Field} {a b c : List ℕ} → Fit gs → Appended m gs a b → Appended (m + bits gs) hs b c → Appended m (gs ++ hs) a c
+appended-more : {m : ℕ} {gs hs : List Field} {a b c : List ℕ} → Fit gs → Appended m gs a b → Appended (m + bits gs) hs b c → Appended m (gs ++ hs) a c
 appended-more {m} {gs} {hs} g p q = record {
   more = λ s fs k h e d.
       q .more s (fs ++ gs) k (fit-append h g) (bits-append fs gs ∙ rw e) (p .more s fs k h e d) ∙ ap (written s) (append-assoc fs gs hs);
@@ -48,17 +48,17 @@ appended-more {m} {gs} {hs} g p q = record {
 
 -- ---- digits as fields
 
-pub digit-fields-append : (u v : List ℤ) → digit-fields (u ++ v) ≡ digit-fields u ++ digit-fields v
+digit-fields-append : (u v : List ℤ) → digit-fields (u ++ v) ≡ digit-fields u ++ digit-fields v
 digit-fields-append u v = rw (map-append (encode 5) u v, map-append _ (map (encode 5) u) (map (encode 5) v))
 
-pub bits-digits : (v : List ℤ) → bits (digit-fields v) ≡ 5 * length v
+bits-digits : (v : List ℤ) → bits (digit-fields v) ≡ 5 * length v
 bits-digits v = bits-each 5 (map (encode 5) v) ∙ rw (length-map v (encode 5))
 
 digits-none : (ds : List ℤ) (i : ℕ) → digits-from ds i 0 ≡ []
 unfolding list-from
 digits-none ds i = refl
 
-pub digits-append : (ds : List ℤ) (i a b : ℕ) → digits-from ds i (a + b) ≡ digits-from ds i a ++ digits-from ds (i + a) b
+digits-append : (ds : List ℤ) (i a b : ℕ) → digits-from ds i (a + b) ≡ digits-from ds i a ++ digits-from ds (i + a) b
 digits-append ds i a zero = let e : a + 0 ≡ a = omega arith in rw (e, digits-none ds (i + a)) (sym (append-nil (digits-from ds i a)))
 digits-append ds i a (suc b) =
     let e : a + suc b ≡ a + b + 1 = omega arith in

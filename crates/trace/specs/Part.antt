@@ -3,7 +3,7 @@
 -- contracts of `src/lib.rt`.
 use mathlib.Core.Path.{_≡_, refl, sym, ap, _∙_}
 use mathlib.Core.Bool.{Bool, true, false, not, cond}
-use mathlib.Core.List.{List, [], _∷_, map}
+use mathlib.Core.List.{List, [], _∷_, _++_, map}
 use Prim.Native.Nat.{ℕ, _+_, _*_, _-_, _≤_}
 use native.Mathlib.Omega.{arith}
 use borrow.Author.Tests.{eq-eqb, eqb-false, eqb-true, le-ltb, ne-eqb}
@@ -54,7 +54,7 @@ abbrev pub size-checks : Header → ℕ → Bool → Bool → List Check
 size-checks h k size fills = (10, too-many-steps h k) ∷ (6, size) ∷ (7, fills) ∷ []
 
 abbrev pub rest-checks : Header → ℕ → Bool → Bool → List ℤ → List Check
-rest-checks h k size fills ds = (10, too-many-steps h k) ∷ (6, size) ∷ (7, fills) ∷ (11, digit-beyond h k ds) ∷ []
+rest-checks h k size fills ds = size-checks h k size fills ++ ((11, digit-beyond h k ds) ∷ [])
 
 unfoldable pub rest-answer : Header → ℕ → Bool → Bool → List ℤ → Recorded
 rest-answer h k size fills ds =

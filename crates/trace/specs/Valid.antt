@@ -45,7 +45,7 @@ pub record Accepted (s : List ℕ) : Type 0 where
 
 -- ---- digits within p
 
-pub beyond-not : (h : Header) (k : ℕ) (ds : List ℤ) → (digit-beyond h k ds ≡ false) ↔ ((j i : ℕ) → j < k → i < h .n → natAbs (entry ds j i) ≤ h .p)
+beyond-not : (h : Header) (k : ℕ) (ds : List ℤ) → (digit-beyond h k ds ≡ false) ↔ ((j i : ℕ) → j < k → i < h .n → natAbs (entry ds j i) ≤ h .p)
 beyond-not h k ds =
     let b = beyond-false (h .n) (h .p) ds 0 k in
     ((λ e j i l m. b .0 e i m j (omega arith) (omega arith)), (λ f. b .1 (λ i m j g l. f j i (omega arith) m)))

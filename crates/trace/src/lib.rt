@@ -135,9 +135,10 @@ fn size_refusal(b: &[u8], h: Header, k: usize) -> usize
     requires { ⌜ Limits h × (k < 64) ⌝ }
     ensures { λ r. ⌜ r ≡ first-refusal (size-checks h k (part-wrong-length h k (now (b .entry))) (part-fill-bit-set h k (now (b .entry)))) ⌝ }
 {
+    let m = h.m;
     let bits = 6 + 5 * (h.n * k);
     let size = (bits + 7) / 8;
-    if h.m < k {
+    if m < k {
         return 10; // more steps than the job has
     }
     if b.len() != size {
@@ -254,7 +255,7 @@ fn writer_refusal(h: Header, k: usize, d: &[i8; 960], room: usize) -> usize
     if 0 < c {
         return c;
     }
-    if k > h.m {
+    if h.m < k {
         return 10; // k above m
     }
     if state::beyond(d, h.n, h.p, 0, k) {

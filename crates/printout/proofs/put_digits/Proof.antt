@@ -7,14 +7,9 @@ use lib.ListN.{length}
 use Rattle.integers.specs.Flat.{entry}
 use Rattle.state.specs.Digits.{digits-of}
 use Rattle.text.specs.Text.{Put}
-use Rattle.printout.proofs.Lines.{spaced, length-spaced, spaced-start, digit-read, next-room, end-room, spaced-next, spaced-all}
+use Rattle.printout.proofs.Lines.{spaced, spaced-start, digit-read, next-room, end-room, spaced-next, spaced-all}
 use Rattle.printout.proofs.put_digits.Statement.{statement}
 use Rattle.printout.proofs.put_digits.Tie as tie
-use Rattle.printout.proofs.put_digits.Reads as reads
-use Rattle.printout.proofs.put_digits.Lts as lts
-use Rattle.integers.proofs.widen.Reads as widen-reads
-use Rattle.text.proofs.put_byte.Reads as put-byte-reads
-use Rattle.text.proofs.put_item.Reads as put-item-reads
 
 abbrev Inv-loop : tie.InvT-loop
 Inv-loop out₀ at digits t n end₀ i₀ out end i =
@@ -23,42 +18,33 @@ Inv-loop out₀ at digits t n end₀ i₀ out end i =
 abbrev μ-loop : tie.MeasureT-loop
 μ-loop out₀ at digits t n end₀ i₀ out end i = n - i
 
--- src/lib.rt:38:5
 loop-holds : tie.Need-loop-holds Inv-loop μ-loop
 loop-holds c = (omega arith, refl, spaced-start (digits-of (c .before .args .digits .now) (suc (c .before .args .t))))
 
--- src/lib.rt:39:47
 mul-widen : tie.Need-mul-widen Inv-loop μ-loop
 mul-widen c = omega arith
 
--- src/lib.rt:39:47
 add-widen : tie.Need-add-widen Inv-loop μ-loop
 add-widen c = omega arith
 
--- src/lib.rt:39:40
 element-copy-out-widen : tie.Need-element-copy-out-widen Inv-loop μ-loop
 element-copy-out-widen c = omega arith
 
--- src/lib.rt:39:34
 widen-requires : tie.Need-widen-requires Inv-loop μ-loop
 widen-requires c κs = search needs
 
--- src/lib.rt:39:9
 put-item-requires : tie.Need-put-item-requires Inv-loop μ-loop
 put-item-requires c κs =
     let l = c .before .before .before .before in
     let s = l .before .before in
     next-room (digits-of (s .args .digits .now) (suc (s .args .t))) (l .loop .inv .2) (l .loop .inv .1) (s .pre .2) _ (omega arith)
 
--- src/lib.rt:40:9
 add-i : tie.Need-add-i Inv-loop μ-loop
 add-i c = omega arith
 
--- src/lib.rt:38:5
 loop-less : tie.Need-loop-less Inv-loop μ-loop
 loop-less c = omega arith
 
--- src/lib.rt:38:5
 loop-again : tie.Need-loop-again Inv-loop μ-loop
 loop-again c =
     let w = c .before .before .before in
@@ -72,18 +58,15 @@ loop-again c =
           (c .before .before .put-item .ensures),
     )
 
--- src/lib.rt:42:5
 put-byte-requires : tie.Need-put-byte-requires Inv-loop μ-loop
 put-byte-requires c κs =
     let l = c .before .before in
     let s = l .before .before in
     end-room (digits-of (s .args .digits .now) (suc (s .args .t))) (l .loop .inv .2) (l .loop .inv .1) (s .pre .2) (omega arith)
 
--- src/lib.rt:32:1
 same-length : tie.Need-same-length Inv-loop μ-loop
 same-length c = c .before .before .put-byte .kept .0 ∙ c .before .before .before .before .before .loop .inv .1
 
--- src/lib.rt:32:1
 returns : tie.Need-returns Inv-loop μ-loop
 returns c =
     let l = c .before .before .before .before .before in

@@ -1,5 +1,4 @@
 -- The readings are not refused, and are those of the state.
-use mathlib.Core.Path.{refl}
 use native.Mathlib.Omega.{arith}
 use Rattle.text.proofs.Putting.{put-then}
 use Rattle.printout.proofs.Jobs.{order-small, readings-put}

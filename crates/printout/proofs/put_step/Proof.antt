@@ -24,7 +24,8 @@ same-length c = search needs
 returns : tie.Need-returns
 returns c =
     let b = c .before .before .before .before .before .before in
-    rw (← add-one (b .before .before .before .args .t)) (put-then (b .put-decimal .ensures) (rw (← add-one (b .before .before .before .args .t)) at (c .before .before .put-digits .ensures)))
+    let e = add-one (b .before .before .before .args .t) in
+    rw (← e) (put-then (b .put-decimal .ensures) (rw (← e) at (c .before .before .put-digits .ensures)))
 
 pub put-step-spec : {M : Type 1} → statement M
 put-step-spec =

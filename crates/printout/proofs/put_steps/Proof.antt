@@ -8,9 +8,6 @@ use Rattle.printout.specs.Printout.{step-lines}
 use Rattle.printout.proofs.Lines.{steps-start, step-room, steps-next, steps-all}
 use Rattle.printout.proofs.put_steps.Statement.{statement}
 use Rattle.printout.proofs.put_steps.Tie as tie
-use Rattle.printout.proofs.put_steps.Reads as reads
-use Rattle.printout.proofs.put_steps.Lts as lts
-use Rattle.printout.proofs.put_step.Reads as put-step-reads
 
 abbrev Inv-loop : tie.InvT-loop
 Inv-loop out₀ at s n k end₀ t₀ out end t = (t ≤ k) × (length out ≡ length out₀) × Put out₀ at (step-lines s 1 t) out end

@@ -19,12 +19,12 @@ add-size c = omega (arith, digits-few (c .before .before .pre .0) (c .before .be
 
 returns : tie.Need-returns
 returns c =
-    let a = c .before .before .before .before .args in
+    let a = c .before .before .before .args in
     size-steps (a .h) (a .k) (a .b .now) (c .if1 .taken)
 
 returns-2 : tie.Need-returns-2
 returns-2 c =
-    let a = c .before .before .before .before .before .args in
+    let a = c .before .before .before .before .args in
     size-length (a .h) (a .k) (a .b .now) (c .before .if1 .left) (c .if2 .taken)
 
 fill-is-zero-requires : tie.Need-fill-is-zero-requires
@@ -34,14 +34,14 @@ returns-3 : tie.Need-returns-3
 returns-3 c =
     let f = c .before in
     let e = f .before in
-    let a = e .before .before .before .before .before .args in
+    let a = e .before .before .before .before .args in
     size-fill (a .h) (a .k) (a .b .now) (f .fill-is-zero .result) (e .before .if1 .left) (e .if2 .left) (f .fill-is-zero .ensures) (c .if3 .taken)
 
 returns-4 : tie.Need-returns-4
 returns-4 c =
     let f = c .before in
     let e = f .before in
-    let a = e .before .before .before .before .before .args in
+    let a = e .before .before .before .before .args in
     size-right (a .h) (a .k) (a .b .now) (f .fill-is-zero .result) (e .before .if1 .left) (e .if2 .left) (f .fill-is-zero .ensures) (c .if3 .left)
 
 pub size-refusal-spec : {M : Type 1} → statement M
