@@ -1,0 +1,42 @@
+-- The text that is written lies within its buffer.
+use mathlib.Core.Path.{sym}
+use lib.Seq.{length-take-le}
+use Rattle.text.proofs.Putting.{text-inside}
+use borrow.Author.Needs.{needs}
+use Rattle.cases.proofs.print_text.Statement.{statement}
+use Rattle.cases.proofs.print_text.Tie as tie
+
+large-buffer-requires : tie.Need-large-buffer-requires
+large-buffer-requires c κs = search needs
+
+slice-aggregate-print-frame : tie.Need-slice-aggregate-print-frame
+slice-aggregate-print-frame c = search needs
+
+print-frame-requires : tie.Need-print-frame-requires
+print-frame-requires c κs = search needs
+
+array-share-prefix-out : tie.Need-array-share-prefix-out
+array-share-prefix-out c = text-inside _ _ (c .before .print-frame .ensures .0) (c .before .print-frame .ensures .1)
+
+slice-aggregate-write-all : tie.Need-slice-aggregate-write-all
+slice-aggregate-write-all c =
+    let p = c .before .before .print-frame in
+    sym (length-take-le (p .result) (p .last .1 .0) (text-inside _ _ (p .ensures .0) (p .ensures .1)))
+
+write-all-requires : tie.Need-write-all-requires
+write-all-requires c κs = search needs
+
+returns : tie.Need-returns
+returns c = search needs
+
+pub print-text-spec : {M : Type 1} → statement M
+print-text-spec =
+    tie.close
+    (tie.spec
+    large-buffer-requires
+    slice-aggregate-print-frame
+    print-frame-requires
+    array-share-prefix-out
+    slice-aggregate-write-all
+    write-all-requires
+    returns)

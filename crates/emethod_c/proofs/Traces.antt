@@ -1,0 +1,191 @@
+-- What reading a trace and writing its record again come to, over the variables of the code.
+use mathlib.Core.Path.{_≡_, refl, sym, ap, _∙_}
+use mathlib.Core.List.{List, _++_}
+use Prim.Native.Nat.{ℕ, zero, suc, _+_, _*_, _-_, _/_, _%_, _<_, _≤_}
+use native.Mathlib.Nat.{div-lt-iff-lt-mul, mod-lt, mul-comm, mul-le-mul}
+use native.Mathlib.Omega.{arith}
+use borrow.Author.Tests.{ne-eqb, eq-eqb, lt-ltb, le-ltb}
+use lib.IntN.{ℤ, pos}
+use lib.ListN.{length, getD, drop}
+use lib.Seq.{ext-getD}
+use Rattle.integers.specs.Flat.{at, entry, list-from, length-list-from, getD-list-from}
+use Rattle.job.specs.Limits.{Limits, digit-small, steps-small}
+use Rattle.job.specs.declared.Header.{Header}
+use Rattle.trace.specs.Trace.{digit-list, trace-refusal, trace-record, read-answer, writer-refusal, write-answer, write-buffer}
+use Rattle.trace.specs.Digits.{length-digit-list}
+use Rattle.trace.specs.Valid.{accepted-is}
+use Rattle.trace.specs.Theorems.{refused-buffer}
+use Rattle.trace.specs.declared.Record.{Record}
+use Rattle.trace.specs.declared.Recorded.{Recorded}
+use Rattle.trace.specs.declared.TraceWritten.{TraceWritten}
+use Rattle.emethod_c.specs.Foreign.{answer-of, rewritten, rewrites, rewrite-answer, rewrite-buffer, header-words, words-of, word-count, trace-words, words-in, read-words, words-left}
+
+-- ---- a record written again and again
+
+pub rewrite-none : (t : Record) (out : List ℕ) → (out ≡ rewritten t 0 out) × (0 ≡ rewrites t 0 (length out))
+unfolding rewritten rewrites
+rewrite-none t out = (refl, refl)
+
+-- a refused write leaves the bytes, and so do many
+stays : (t : Record) (out : List ℕ) → 0 < writer-refusal t (length out) → (j : ℕ) → rewritten t j out ≡ out
+unfolding rewritten
+stays t out h zero = refl
+stays t out h (suc j) = ap (write-buffer t) (stays t out h j) ∙ refused-buffer t out h
+
+module _ (t : Record) (i : ℕ) (given out left : List ℕ) (w : TraceWritten) (a : ℕ) (el : length out ≡ length given) (eo : out ≡ rewritten t i given)
+    (ew : w ≡ write-answer t (length out)) (eb : left ≡ write-buffer t out) (ea : a ≡ answer-of (w .refusal) 0 (w .length)) where
+  -- one turn
+  pub rewrite-turn : (left ≡ rewritten t (i + 1) given) × (a ≡ rewrites t (i + 1) (length given))
+  unfolding rewritten rewrites
+  rewrite-turn =
+      let s : i + 1 ≡ suc i = omega arith in
+      (eb ∙ ap (write-buffer t) eo ∙ ap (λ (j : ℕ). rewritten t j given) (sym s), ea ∙ rw (ew, el, ne-eqb (i + 1) 0 (λ z. omega arith)))
+
+  -- a turn that is refused
+  pub rewrite-stop : (times : ℕ) → i < times → 0 < w .refusal → (a ≡ rewrites t times (length given)) × (left ≡ rewritten t times given)
+  unfolding rewrites write-answer
+  rewrite-stop times l h =
+      let f : w .refusal ≡ writer-refusal t (length out) = ap (λ (x : TraceWritten). x .refusal) ew in
+      let g : 0 < writer-refusal t (length out) = rw f at h in
+      let k : 0 < writer-refusal t (length given) = rw el at g in
+      (ea ∙ rw (ew, el, ne-eqb times 0 (λ z. omega arith)), eb ∙ refused-buffer t out g ∙ eo ∙ stays t given k i ∙ sym (stays t given k times))
+
+-- ---- a trace read
+
+module _ (s : List ℕ) (c : Recorded) (e : c ≡ read-answer s) where
+  module _ (h : 0 < c .refusal) where
+    some : read-answer s .refusal ≡ 0 → ⊥
+    some z = let f : c .refusal ≡ 0 = ap (λ (x : Recorded). x .refusal) e ∙ z in omega arith
+
+    pub rewrite-refused : (times r : ℕ) (out : List ℕ) → r ≡ answer-of (c .refusal) 0 0
+        → (r ≡ rewrite-answer s times (length out)) × (out ≡ rewrite-buffer s times out)
+    unfolding rewrite-answer rewrite-buffer
+    rewrite-refused times r out f = let q = ne-eqb (read-answer s .refusal) 0 some in (f ∙ rw (e, q), rw q)
+
+  module _ (h : c .refusal ≤ 0) where
+    none : read-answer s .refusal ≡ 0
+    none = let f : c .refusal ≡ read-answer s .refusal = ap (λ (x : Recorded). x .refusal) e in omega arith
+
+    pub rewrite-accepted : (times r : ℕ) (out left : List ℕ) → r ≡ rewrites (c .trace) times (length out) → left ≡ rewritten (c .trace) times out
+        → (r ≡ rewrite-answer s times (length out)) × (left ≡ rewrite-buffer s times out)
+    unfolding rewrite-answer rewrite-buffer
+    rewrite-accepted times r out left f g = let q = eq-eqb (read-answer s .refusal) 0 none in (f ∙ rw (e, q), g ∙ rw (e, q))
+
+-- ---- the words of a trace
+
+module _ (h : Header) (k : ℕ) where
+  module _ (l : Limits h) (m : k ≤ h .m) where
+    most : k ≤ 60
+    most = omega (arith, steps-small h l)
+
+    small : (i : ℕ) → getD (header-words h k) i 0 ≤ 60
+    small zero = omega (arith, l .kind-most)
+    small (suc zero) = omega (arith, l .code-most)
+    small (suc (suc zero)) = omega (arith, digit-small h l)
+    small (suc (suc (suc zero))) = omega (arith, l .fraction-most)
+    small (suc (suc (suc (suc zero)))) = omega (arith, l .order-most)
+    small (suc (suc (suc (suc (suc zero))))) = steps-small h l
+    small (suc (suc (suc (suc (suc (suc zero)))))) = most
+    small (suc (suc (suc (suc (suc (suc (suc i))))))) = omega arith
+
+    pub header-small : (i r : ℕ) → r ≡ getD (header-words h k) i 0 → r < 9223372036854775808
+    header-small i r e = omega (arith, small i)
+
+    -- where the digit of a word stands
+    pub place-most : (j : ℕ) → j < h .n * k → 16 * (j / h .n) + j % h .n < 960
+    place-most j q =
+        let p : 0 < h .n = l .order-least in
+        let a : j / h .n < k = div-lt-iff-lt-mul {k = h .n} {x = j} {y = k} p .1 (rw (mul-comm (h .n) k) at q) in
+        let b : j % h .n < h .n = mod-lt j p in
+        omega (arith, most, l .order-most)
+
+    pub count-most : word-count h k ≤ 967
+    count-most = omega (arith, mul-le-mul (l .order-most) most)
+
+  module _ (ds : List ℤ) where
+    pub header-word-is : (i r : ℕ) → i < 7 → r ≡ getD (header-words h k) i 0 → pos r ≡ at (words-of h k ds) i
+    unfolding words-of
+    header-word-is i r q e = ap pos e ∙ each i q
+      where
+        each : (i : ℕ) → i < 7 → pos (getD (header-words h k) i 0) ≡ at (words-of h k ds) i
+        each zero q = refl
+        each (suc zero) q = refl
+        each (suc (suc zero)) q = refl
+        each (suc (suc (suc zero))) q = refl
+        each (suc (suc (suc (suc zero)))) q = refl
+        each (suc (suc (suc (suc (suc zero))))) q = refl
+        each (suc (suc (suc (suc (suc (suc zero)))))) q = refl
+        each (suc (suc (suc (suc (suc (suc (suc i))))))) q = absurd (omega arith)
+
+    digit-at : (j : ℕ) → j < h .n * k → at ds (16 * (j / h .n) + j % h .n) ≡ at (digit-list (h .n) k ds) j
+    unfolding digit-list
+    digit-at j q = let z : 0 + j ≡ j = omega arith in sym (getD-list-from 0 (h .n * k) (λ t. entry ds (t / h .n) (t % h .n)) j q ∙ rw z)
+
+    pub digit-word-is : (i : ℕ) → 7 ≤ i → i < 7 + h .n * k → at ds (16 * ((i - 7) / h .n) + (i - 7) % h .n) ≡ at (words-of h k ds) i
+    unfolding words-of
+    digit-word-is (suc (suc (suc (suc (suc (suc (suc j))))))) p q =
+        let e : suc (suc (suc (suc (suc (suc (suc j)))))) - 7 ≡ j = omega arith in rw e (digit-at j (omega arith))
+    digit-word-is zero p q = absurd (omega arith)
+    digit-word-is (suc zero) p q = absurd (omega arith)
+    digit-word-is (suc (suc zero)) p q = absurd (omega arith)
+    digit-word-is (suc (suc (suc zero))) p q = absurd (omega arith)
+    digit-word-is (suc (suc (suc (suc zero)))) p q = absurd (omega arith)
+    digit-word-is (suc (suc (suc (suc (suc zero))))) p q = absurd (omega arith)
+    digit-word-is (suc (suc (suc (suc (suc (suc zero)))))) p q = absurd (omega arith)
+
+    length-words : length (words-of h k ds) ≡ 7 + h .n * k
+    unfolding words-of
+    length-words = omega (arith, length-digit-list (h .n) k ds)
+
+    -- the words as a function of their places
+    pub words-listed : list-from 0 (7 + h .n * k) (at (words-of h k ds)) ≡ words-of h k ds
+    words-listed =
+        ext-getD (pos 0) _ _ (length-list-from 0 (7 + h .n * k) (at (words-of h k ds)) ∙ sym length-words)
+        (λ t q. let z : 0 + t ≡ t = omega arith in
+        getD-list-from 0 (7 + h .n * k) (at (words-of h k ds)) t (rw (length-list-from 0 (7 + h .n * k) (at (words-of h k ds))) at q) ∙ rw z)
+
+-- ---- a trace read into words
+
+module _ (s : List ℕ) (c : Recorded) (e : c ≡ read-answer s) where
+  module _ (h : 0 < c .refusal) where
+    pub read-refused : (r : ℕ) (given : List ℤ) → r ≡ answer-of (c .refusal) 0 0 → (r ≡ read-words s (length given)) × (given ≡ words-left s given)
+    unfolding read-words words-left read-answer
+    read-refused r given f =
+        let z : c .refusal ≡ trace-refusal s = ap (λ (x : Recorded). x .refusal) e in
+        let q = ne-eqb (trace-refusal s) 0 (some s c e h) in
+        (f ∙ rw (z, q), rw q)
+
+  module _ (h : c .refusal ≤ 0) where
+    zero-refusal : trace-refusal s ≡ 0
+    unfolding read-answer
+    zero-refusal = none s c e h
+
+    trace-is : c .trace ≡ trace-record s
+    unfolding read-answer
+    trace-is = ap (λ (x : Recorded). x .trace) e ∙ rw (eq-eqb (trace-refusal s) 0 zero-refusal)
+
+    pub read-limits : Limits (c .trace .header)
+    read-limits = rw trace-is (accepted-is s .0 zero-refusal .valid .limits)
+
+    pub read-steps : c .trace .k ≤ c .trace .header .m
+    read-steps = rw trace-is (accepted-is s .0 zero-refusal .valid .steps)
+
+    pub read-count : words-in (c .trace) ≤ 967
+    read-count = count-most (c .trace .header) (c .trace .k) read-limits read-steps
+
+    pub read-short : (r : ℕ) (given : List ℤ) → length given < words-in (c .trace) → r ≡ answer-of 23 0 0
+        → (r ≡ read-words s (length given)) × (given ≡ words-left s given)
+    unfolding read-words words-left
+    read-short r given l f =
+        let q = eq-eqb (trace-refusal s) 0 zero-refusal in
+        let t = lt-ltb (length given) (words-in (trace-record s)) (rw trace-is at l) in
+        (f ∙ rw (q, t), rw (q, t))
+
+    pub read-whole : (r : ℕ) (given left : List ℤ) → words-in (c .trace) ≤ length given → r ≡ answer-of 0 0 (words-in (c .trace))
+        → left ≡ trace-words (c .trace) ++ drop (words-in (c .trace)) given
+        → (r ≡ read-words s (length given)) × (left ≡ words-left s given)
+    unfolding read-words words-left
+    read-whole r given left l f g =
+        let q = eq-eqb (trace-refusal s) 0 zero-refusal in
+        let t = le-ltb (length given) (words-in (trace-record s)) (rw trace-is at l) in
+        (f ∙ rw (q, t, trace-is), g ∙ rw (q, t, trace-is))

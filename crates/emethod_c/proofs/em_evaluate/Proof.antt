@@ -1,0 +1,36 @@
+-- What `evaluate` promises, and its answer in one number.
+use mathlib.Core.Path.{_≡_}
+use borrow.Author.Needs.{needs}
+use Rattle.emethod_c.proofs.em_evaluate.Statement.{statement}
+use Rattle.emethod_c.proofs.em_evaluate.Tie as tie
+
+slice-aggregate-evaluate : tie.Need-slice-aggregate-evaluate
+slice-aggregate-evaluate c = search needs
+
+evaluate-requires : tie.Need-evaluate-requires
+evaluate-requires c κs = search needs
+
+counted-requires : tie.Need-counted-requires
+counted-requires c κs = search needs
+
+answer-requires : tie.Need-answer-requires
+answer-requires c κs = search needs
+
+same-length : tie.Need-same-length
+same-length c = search needs
+
+returns : tie.Need-returns
+returns c =
+    let e = c .before .before .before .evaluate in
+    record { evaluated = e .result; promise = e .ensures; answer = rw (← c .before .counted .ensures) (c .answer .ensures) }
+
+pub em-evaluate-spec : {M : Type 1} → statement M
+em-evaluate-spec =
+    tie.close
+    (tie.spec
+    slice-aggregate-evaluate
+    evaluate-requires
+    counted-requires
+    answer-requires
+    same-length
+    returns)

@@ -1,0 +1,228 @@
+// The library for host tools in other languages: functions over numbers and lent memory, built by `rt staticlib emethod_c`. emethod.h beside this crate's
+// src/ declares them for C. Each answers one number that carries the refusal, the row and a count, and asks nothing of its caller.
+ghost use mathlib.Core.Path.{_≡_};
+ghost use mathlib.Core.List.{_++_};
+ghost use Prim.Native.Nat.{_+_, _*_, _<_, _≤_};
+ghost use lib.ListN.{length, getD, drop};
+ghost use Rattle.integers.specs.Flat.{at};
+ghost use Rattle.job.specs.Limits.{Limits};
+ghost use Rattle.frame.specs.Frame.{write-buffer};
+ghost use Rattle.emethod_c.specs.Foreign.{
+  answer-of,
+  counted,
+  check-answer,
+  Evaluates,
+  header,
+  frame-written,
+  probed,
+  load-probed,
+  trace-written,
+  trace-buffer,
+  rewrites,
+  rewritten,
+  rewrite-answer,
+  rewrite-buffer,
+  header-words,
+  words-of,
+  word-count,
+  read-words,
+  words-left,
+};
+use job::Header;
+use trace::Record;
+
+// The three numbers in one.
+fn answer(refusal: usize, row: usize, count: usize) -> u64
+    ensures { λ r. ⌜ r ≡ answer-of refusal row count ⌝ }
+{
+    (refusal % 256 + 256 * (row % 256) + 65536 * (count % 1099511627776)) as u64
+}
+
+// The count where there is no refusal, else 0.
+fn counted(refusal: usize, count: usize) -> usize
+    ensures { λ r. ⌜ r ≡ counted refusal count ⌝ }
+{
+    if refusal == 0 { count } else { 0 }
+}
+
+// Loads a frame and lets it go.
+#[no_mangle]
+pub extern "C" fn em_check_frame(frame: &[u8]) -> u64
+    ensures { λ r. ⌜ r ≡ check-answer (now (frame .entry)) ⌝ }
+{
+    let l = evaluator::load(frame);
+    if 0 < l.refusal {
+        return answer(l.refusal, l.row, 0);
+    }
+    let s = l.state;
+    answer(0, 0, job::count(s.header))
+}
+
+// Loads a frame, advances it by the budget, and writes a reading for each row.
+#[no_mangle]
+pub extern "C" fn em_evaluate(frame: &[u8], budget: u64, readings: &mut [i64]) -> u64
+    ensures { λ r. ⌜ Evaluates (now (frame .entry)) budget (now (readings .entry)) r (now (readings .exit)) ⌝ }
+{
+    let budgets = [budget; 1];
+    let e = accuracy::evaluate(frame, &budgets, readings);
+    answer(e.refusal, e.row, counted(e.refusal, e.made))
+}
+
+// Writes a frame of the fields and the numbers.
+#[no_mangle]
+pub extern "C" fn em_write_frame(
+    kind: usize,
+    code: usize,
+    p: usize,
+    f: usize,
+    n: usize,
+    m: usize,
+    numbers: &[i64],
+    out: &mut [u8],
+) -> u64
+    ensures { λ r. ⌜ r ≡ frame-written (header kind code p f n m) (now (numbers .entry)) (length (now (out .entry))) ⌝ }
+    ensures { λ r. ⌜ now (out .exit) ≡ write-buffer (header kind code p f n m) (now (numbers .entry)) (now (out .entry)) ⌝ }
+{
+    let h = Header {
+        kind,
+        code,
+        p,
+        f,
+        n,
+        m,
+    };
+    let w = frame::write_frame(h, numbers, out);
+    answer(w.refusal, w.row, w.length)
+}
+
+// An entry of the matrix, or past its columns the residual of the row.
+fn probe<'a>(g: &'a [i64; 256], z: &'a [i64; 16], row: usize, column: usize) -> i64
+    ensures { λ r. ⌜ r ≡ probed (now (g .entry)) (now (z .entry)) row column ⌝ }
+{
+    if 16 <= row {
+        return 0;
+    }
+    if column < 16 {
+        return g[16 * row + column];
+    }
+    z[row]
+}
+
+// For measurements: a load that cannot be left out.
+#[no_mangle]
+pub extern "C" fn em_probe_load(frame: &[u8], row: usize, column: usize) -> i64
+    ensures { λ r. ⌜ r ≡ load-probed (now (frame .entry)) row column ⌝ }
+{
+    let l = evaluator::load(frame);
+    if 0 < l.refusal {
+        return 0;
+    }
+    let s = l.state;
+    probe(&s.g, &s.z, row, column)
+}
+
+// Loads a frame, advances it by the budget, and writes its trace. A budget that no step is made with leaves the state as it is, and its trace is written.
+#[no_mangle]
+pub extern "C" fn em_write_trace(frame: &[u8], budget: u64, out: &mut [u8]) -> u64
+    ensures { λ r. ⌜ r ≡ trace-written (now (frame .entry)) budget (length (now (out .entry))) ⌝ }
+    ensures { λ r. ⌜ now (out .exit) ≡ trace-buffer (now (frame .entry)) budget (now (out .entry)) ⌝ }
+{
+    let l = evaluator::load(frame);
+    if 0 < l.refusal {
+        return answer(l.refusal, l.row, 0);
+    }
+    let s = l.state;
+    let a = evaluator::advance(s, budget);
+    let t = a.state;
+    let c = trace::record_of(t);
+    let d = c.trace;
+    let w = trace::write_trace(d, out);
+    answer(w.refusal, 0, w.length)
+}
+
+// Writes a record `times` times, and stops where that is refused.
+fn rewrite(t: Record, times: u64, out: &mut [u8]) -> u64
+    ensures { λ r. ⌜ r ≡ rewrites t times (length (now (out .entry))) ⌝ }
+    ensures { λ r. ⌜ now (out .exit) ≡ rewritten t times (now (out .entry)) ⌝ }
+{
+    let mut a: u64 = 0;
+    let mut i: u64 = 0;
+    while i < times {
+        let w = trace::write_trace(t, out);
+        a = answer(w.refusal, 0, w.length);
+        if 0 < w.refusal {
+            return a;
+        }
+        i += 1;
+    }
+    a
+}
+
+// For measurements: reads a trace once, and writes it back `times` times.
+#[no_mangle]
+pub extern "C" fn em_rewrite_trace(trace: &[u8], times: u64, out: &mut [u8]) -> u64
+    ensures { λ r. ⌜ r ≡ rewrite-answer (now (trace .entry)) times (length (now (out .entry))) ⌝ }
+    ensures { λ r. ⌜ now (out .exit) ≡ rewrite-buffer (now (trace .entry)) times (now (out .entry)) ⌝ }
+{
+    let c = trace::read_trace(trace);
+    if 0 < c.refusal {
+        return answer(c.refusal, 0, 0);
+    }
+    let t = c.trace;
+    rewrite(t, times, out)
+}
+
+// One of the first seven words of a trace: the header's fields and the steps made.
+fn header_word(h: Header, k: usize, i: usize) -> usize
+    requires { ⌜ i < 7 ⌝ }
+    ensures { λ r. ⌜ r ≡ getD (header-words h k) i 0 ⌝ }
+{
+    let w = [h.kind, h.code, h.p, h.f, h.n, h.m, k];
+    w[i]
+}
+
+// One of the words of a trace. After the first seven come the digits, step by step and in a step row by row.
+fn word(h: Header, k: usize, d: &[i8; 960], i: usize) -> i64
+    requires { ⌜ Limits h × (k ≤ h .m) × (i < word-count h k) ⌝ }
+    ensures { λ r. ⌜ r ≡ at (words-of h k (now (d .entry))) i ⌝ }
+{
+    if i < 7 {
+        return integers::to_signed(header_word(h, k, i) as u64);
+    }
+    let j = i - 7;
+    integers::widen(d[16 * (j / h.n) + j % h.n])
+}
+
+// Puts the words of a record into the list; the words past them stay.
+fn put_words(h: Header, k: usize, d: &[i8; 960], words: &mut [i64])
+    requires { ⌜ Limits h × (k ≤ h .m) × (word-count h k ≤ length (now words)) ⌝ }
+    ensures { λ _. ⌜ now (words .exit) ≡ words-of h k (now (d .entry)) ++ drop (word-count h k) (now (words .entry)) ⌝ }
+{
+    let size = 7 + h.n * k;
+    let mut i: usize = 0;
+    while i < size {
+        words[i] = word(h, k, d, i);
+        i += 1;
+    }
+}
+
+// Reads a trace into words.
+#[no_mangle]
+pub extern "C" fn em_read_trace(trace: &[u8], words: &mut [i64]) -> u64
+    ensures { λ r. ⌜ r ≡ read-words (now (trace .entry)) (length (now (words .entry))) ⌝ }
+    ensures { λ r. ⌜ now (words .exit) ≡ words-left (now (trace .entry)) (now (words .entry)) ⌝ }
+{
+    let c = trace::read_trace(trace);
+    if 0 < c.refusal {
+        return answer(c.refusal, 0, 0);
+    }
+    let t = c.trace;
+    let h = t.header;
+    let k = t.k;
+    let size = 7 + h.n * k;
+    if words.len() < size {
+        return answer(23, 0, 0); // too little room
+    }
+    put_words(h, k, &t.digits, words);
+    answer(0, 0, size)
+}
