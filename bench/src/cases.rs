@@ -1,0 +1,200 @@
+//! The cases of document 01, and its vectors.
+
+use std::fs;
+use std::path::Path;
+
+use crate::inputs::pack_frame;
+use crate::plain::Fields;
+use crate::sides::Side;
+
+const A: [u8; 6] = [0x01, 0x10, 0x44, 0x10, 0x32, 0x00];
+const A_TRACE: [u8; 9] = [0x01, 0x10, 0x44, 0x10, 0x01, 0x08, 0x02, 0x0F, 0x80];
+const A_TEXT: &str = "0 2 1 4 2 4\n1 0 1\n2 1 0\n3 1 0\n4 -1 0\n= 5 8\n";
+const B_TEXT: &str = "1 2 1 4 2 5\n1 1 0\n2 0 -1\n3 0 1\n4 0 0\n5 -1 0\n= 15 -4\n";
+const C_TEXT: &str = "2 2 1 4 1 4\n1 1\n2 1\n3 -1\n4 1\n= 11\n";
+
+/// A job with four fraction bits, as a frame.
+fn frame(kind: usize, r: usize, p: usize, n: usize, m: usize, numbers: &[i64]) -> Vec<u8> {
+    pack_frame(&fields(kind, r, p, n, m), numbers)
+}
+
+fn fields(kind: usize, r: usize, p: usize, n: usize, m: usize) -> Fields {
+    Fields {
+        kind,
+        code: r.ilog2() as usize - 1,
+        p,
+        f: 4,
+        n,
+        m,
+    }
+}
+
+/// What `edigits` prints for a frame, by the calls of one side.
+pub fn frame_text<S: Side>(frame: &[u8]) -> String {
+    let mut readings = [0; 16];
+    let mut trace = [0; 604];
+    let mut words = [0; 967];
+    let answer = S::evaluate(frame, u64::MAX, &mut readings);
+    match answer.refusal() {
+        0 => {}
+        number @ (8 | 9) => return format!("refused {number} {}\n", answer.row()),
+        number => return format!("refused {number}\n"),
+    }
+    let bytes = S::write_trace(frame, u64::MAX, &mut trace).count();
+    let count = S::read_trace(&trace[..bytes], &mut words).count();
+    let n = words[4] as usize;
+    let mut text = String::new();
+    push_line(&mut text, &head(&words[..6]));
+    push_steps(&mut text, n, &words[7..count]);
+    text.push_str("= ");
+    push_line(&mut text, &readings[..n]);
+    text
+}
+
+/// What the vectors show for a trace, by the calls of one side.
+pub fn trace_text<S: Side>(trace: &[u8]) -> String {
+    let mut words = [0; 967];
+    let answer = S::read_trace(trace, &mut words);
+    if answer.refusal() != 0 {
+        return format!("refused {}\n", answer.refusal());
+    }
+    let mut text = String::new();
+    push_line(&mut text, &head(&words[..7]));
+    push_steps(&mut text, words[4] as usize, &words[7..answer.count()]);
+    text
+}
+
+/// The fields with the radix in place of its code.
+fn head(words: &[i64]) -> Vec<i64> {
+    let mut words = words.to_vec();
+    words[1] = 2 << words[1];
+    words
+}
+
+fn push_steps(text: &mut String, n: usize, digits: &[i64]) {
+    for (step, digits) in digits.chunks_exact(n).enumerate() {
+        let mut line = vec![step as i64 + 1];
+        line.extend(digits);
+        push_line(text, &line);
+    }
+}
+
+fn push_line(text: &mut String, items: &[i64]) {
+    let items: Vec<String> = items.iter().map(i64::to_string).collect();
+    text.push_str(&items.join(" "));
+    text.push('\n');
+}
+
+/// The cases A to H and the edges of m, by one side. Gives how many there are.
+pub fn run<S: Side>() -> Result<usize, String> {
+    let mut done = 0;
+    let mut case = |name: &str, right: bool| {
+        done += 1;
+        match right {
+            true => Ok(()),
+            false => Err(format!("{}: case {name} is wrong", S::NAME)),
+        }
+    };
+    let refused = |frame: &[u8]| {
+        let answer = S::check_frame(frame);
+        (answer.refusal(), answer.row())
+    };
+    let curve = |x, p_0| frame(0, 2, 1, 2, 4, &[x, p_0, 8]);
+    let mut lent = [0; 1431];
+
+    case("A, frame", curve(4, 3) == A)?;
+    case("A, text", frame_text::<S>(&A) == A_TEXT)?;
+    let written = S::write_frame(&fields(0, 2, 1, 2, 4), &[4, 3, 8], &mut lent);
+    case("A, written", lent[..written.count()] == A)?;
+    let traced = S::write_trace(&A, 4, &mut lent);
+    case("A, trace", lent[..traced.count()] == A_TRACE)?;
+
+    let b = frame(1, 2, 1, 2, 5, &[2, 8, 0, 4]);
+    case("B", frame_text::<S>(&b) == B_TEXT)?;
+    let c = frame(2, 2, 1, 1, 4, &[12, 8]);
+    case("C", frame_text::<S>(&c) == C_TEXT)?;
+
+    case("D", refused(&curve(5, 3)) == (8, 1))?;
+    case("E, 9", refused(&curve(4, 9)) == (9, 1))?;
+    case("E, 8", refused(&curve(4, 8)) == (0, 0))?;
+    case("E, -8", refused(&curve(4, -8)) == (0, 0))?;
+    case("E, -9", refused(&curve(4, -9)) == (9, 1))?;
+
+    let four = |p, x| frame(0, 4, p, 2, 4, &[x, 3, 8]);
+    case("F, p 2, x 1", refused(&four(2, 1)) == (0, 0))?;
+    case("F, p 2, x 2", refused(&four(2, 2)) == (8, 1))?;
+    case("F, p 3, x 2", refused(&four(3, 2)) == (0, 0))?;
+    case("F, p 3, x 3", refused(&four(3, 3)) == (8, 1))?;
+
+    case("G", refused(&frame(0, 2, 1, 1, 4, &[31, 8])) == (0, 0))?;
+
+    case("H, both", refused(&curve(5, 9)) == (8, 1))?;
+    case("H, empty", refused(&[]) == (1, 0))?;
+    let mut filled = A;
+    filled[5] = 0x01;
+    case("H, last byte 01", refused(&filled) == (7, 0))?;
+    let mut longer = A.to_vec();
+    longer.push(0);
+    case("H, a byte more", refused(&longer) == (6, 0))?;
+
+    let steps = |r, p, m| refused(&frame(0, r, p, 2, m, &[0, 3, 8]));
+    case("m 60 at r 2", steps(2, 1, 60) == (0, 0))?;
+    case("m 61 at r 2", steps(2, 1, 61) == (5, 0))?;
+    case("m 15 at r 16", steps(16, 8, 15) == (0, 0))?;
+    case("m 16 at r 16", steps(16, 8, 16) == (5, 0))?;
+    Ok(done)
+}
+
+/// Runs one side over a folder of vectors: each `.bin` must give exactly its `.txt`.
+pub fn run_vectors<S: Side>(folder: &Path) -> Result<(), String> {
+    run_file(S::NAME, folder, "frames", frame_text::<S>)?;
+    run_file(S::NAME, folder, "traces", trace_text::<S>)
+}
+
+fn run_file(
+    side: &str,
+    folder: &Path,
+    name: &str,
+    text: impl Fn(&[u8]) -> String,
+) -> Result<(), String> {
+    let read = |ending: &str| {
+        let path = folder.join(name).with_extension(ending);
+        fs::read(&path).map_err(|error| format!("{}: {error}", path.display()))
+    };
+    let input = read("bin")?;
+    let expected = read("txt")?;
+    let mut items = 0;
+    let mut input = &input[..];
+    let mut left = &expected[..];
+    while let [high, low, after @ ..] = input {
+        let length = usize::from(*high) << 8 | usize::from(*low);
+        if length > after.len() {
+            return Err(format!("{name}.bin ends within an item"));
+        }
+        let item;
+        (item, input) = after.split_at(length);
+        items += 1;
+        left = left
+            .strip_prefix(text(item).as_bytes())
+            .ok_or_else(|| format!("{side}: {name}, item {items} differs: {item:02X?}"))?;
+    }
+    if !input.is_empty() || !left.is_empty() {
+        return Err(format!("{side}: {name}.bin ends too early"));
+    }
+    println!(
+        "{side}: {items} {name}, {} bytes, all equal",
+        expected.len()
+    );
+    Ok(())
+}
+
+#[cfg(test)]
+mod tests {
+    use super::*;
+    use crate::sides::Plain;
+
+    #[test]
+    fn document_cases() {
+        run::<Plain>().unwrap();
+    }
+}

@@ -1,0 +1,84 @@
+//! The calls of emethod.h on the plain side, each put together from document 01's.
+
+use std::hint::black_box;
+
+use super::{read_trace, write_trace, Fields, Refusal, State};
+
+/// Loads a frame and lets it go. Gives how many numbers it holds.
+pub fn check_frame(frame: &[u8]) -> Result<usize, Refusal> {
+    match State::load(frame)? {
+        State::Job(job) => Ok(job.fields.count()),
+        State::Idle => Err(Refusal::Idle),
+    }
+}
+
+/// Loads a frame, makes steps and gives the readings. Gives the steps made.
+pub fn evaluate(frame: &[u8], budget: u64, readings: &mut [i64]) -> Result<usize, Refusal> {
+    let (state, steps) = load_and_advance(frame, budget)?;
+    state.readings(readings)?;
+    Ok(steps)
+}
+
+/// Loads a frame, makes steps and writes the trace. Gives its bytes.
+pub fn trace_frame(frame: &[u8], budget: u64, out: &mut [u8]) -> Result<usize, Refusal> {
+    let (state, _) = load_and_advance(frame, budget)?;
+    write_trace(&state.record()?, out)
+}
+
+/// A budget of 0 makes no step; here that is no refusal.
+fn load_and_advance(frame: &[u8], budget: u64) -> Result<(State, usize), Refusal> {
+    let mut state = State::load(frame)?;
+    let steps = match budget {
+        0 => 0,
+        _ => state.advance(budget)?,
+    };
+    Ok((state, steps))
+}
+
+/// Reads a trace into words: the fields, k and the digits. Gives how many.
+pub fn trace_words(trace: &[u8], words: &mut [i64]) -> Result<usize, Refusal> {
+    let record = read_trace(trace)?;
+    let Fields {
+        kind,
+        code,
+        p,
+        f,
+        n,
+        m,
+    } = record.fields;
+    let head = [kind, code, p, f, n, m, record.k].map(|field| field as i64);
+    let count = head.len() + record.digits.len();
+    let words = words.get_mut(..count).ok_or(Refusal::NoRoom)?;
+    let (first, rest) = words.split_at_mut(head.len());
+    first.copy_from_slice(&head);
+    for (word, &digit) in rest.iter_mut().zip(&record.digits) {
+        *word = i64::from(digit);
+    }
+    Ok(count)
+}
+
+/// After a load, an entry of G, or past column 15 what is left in its row; 0 when refused and past order n.
+pub fn probe_load(frame: &[u8], row: usize, column: usize) -> i64 {
+    match State::load(frame) {
+        Ok(State::Job(job)) if row < job.fields.n => {
+            let n = job.fields.n;
+            match column {
+                _ if column < n => job.g[row * n + column],
+                0..=15 => 0,
+                _ => job.z[row],
+            }
+        }
+        _ => 0,
+    }
+}
+
+/// Reads a trace once and writes it back so many times. Gives its bytes.
+pub fn rewrite_trace(trace: &[u8], times: u64, out: &mut [u8]) -> Result<usize, Refusal> {
+    let record = read_trace(trace)?;
+    let mut bytes = 0;
+    for _ in 0..times {
+        // Each time anew: the compiler must not see that nothing changed.
+        bytes = write_trace(black_box(&record), out)?;
+    }
+    Ok(bytes)
+}

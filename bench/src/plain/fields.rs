@@ -1,0 +1,121 @@
+//! The fields in the first three bytes of a frame and of a trace.
+
+use super::bits::{BitReader, BitWriter};
+use super::Refusal;
+
+pub const HEADER_BYTES: usize = 3;
+pub const MAX_ORDER: usize = 16;
+
+pub const POLYNOMIAL: usize = 0;
+pub const RATIONAL: usize = 1;
+pub const SYSTEM: usize = 2;
+
+#[derive(Clone, Copy, Debug, PartialEq, Eq)]
+pub struct Fields {
+    pub kind: usize,
+    pub code: usize,
+    /// The largest digit.
+    pub p: usize,
+    /// The fraction bits of each number.
+    pub f: usize,
+    /// The order.
+    pub n: usize,
+    /// The steps.
+    pub m: usize,
+}
+
+impl Fields {
+    /// Takes the fields apart and looks at their ranges. The bytes are there.
+    pub fn read(reader: &mut BitReader) -> Result<Fields, Refusal> {
+        let mut field = |bits| reader.unsigned(bits) as usize;
+        let fields = Fields {
+            kind: field(2),
+            code: field(2),
+            p: field(4),
+            f: field(6),
+            n: field(4) + 1,
+            m: field(6),
+        };
+        fields.check()?;
+        Ok(fields)
+    }
+
+    pub fn write(&self, writer: &mut BitWriter) {
+        let mut field = |value: usize, bits| writer.put(value as u64, bits);
+        field(self.kind, 2);
+        field(self.code, 2);
+        field(self.p, 4);
+        field(self.f, 6);
+        field(self.n - 1, 4);
+        field(self.m, 6);
+    }
+
+    /// 2, 14, 3, 4, 5. Three bytes hold no order and no radix code out of range, so one order serves readers and writers.
+    pub fn check(&self) -> Result<(), Refusal> {
+        if self.kind > SYSTEM || self.code > 3 {
+            return Err(Refusal::Kind);
+        }
+        if self.n < 1 || self.n > MAX_ORDER {
+            return Err(Refusal::Order);
+        }
+        let r = 1 << self.radix_bits();
+        if self.p < r / 2 || self.p > r - 1 {
+            return Err(Refusal::LargestDigit);
+        }
+        if self.f < 4 || self.f > 40 {
+            return Err(Refusal::FractionBits);
+        }
+        if self.m < 1 || self.m > 60 / self.radix_bits() {
+            return Err(Refusal::Steps);
+        }
+        Ok(())
+    }
+
+    /// log2(r).
+    pub fn radix_bits(&self) -> usize {
+        self.code + 1
+    }
+
+    /// The radix r.
+    pub fn radix(&self) -> i64 {
+        1 << self.radix_bits()
+    }
+
+    /// What stands for 1: 2^f.
+    pub fn unit(&self) -> i64 {
+        1 << self.f
+    }
+
+    /// The bits of each number.
+    pub fn number_bits(&self) -> usize {
+        self.f + 2
+    }
+
+    /// How many numbers a frame holds.
+    pub fn count(&self) -> usize {
+        match self.kind {
+            POLYNOMIAL => 1 + self.n,
+            RATIONAL => 2 * self.n,
+            _ => self.n * (self.n + 1),
+        }
+    }
+
+    pub fn frame_bytes(&self) -> usize {
+        HEADER_BYTES + (self.count() * self.number_bits()).div_ceil(8)
+    }
+
+    pub fn trace_bytes(&self, k: usize) -> usize {
+        HEADER_BYTES + (6 + 5 * k * self.n).div_ceil(8)
+    }
+
+    /// The largest weight S of a row with 2 × r × p × S at most 2^f × (2p - (r - 1)).
+    pub fn largest_weight(&self) -> i64 {
+        let (r, p) = (self.radix(), self.p as i64);
+        self.unit() * (2 * p - (r - 1)) / (2 * r * p)
+    }
+
+    /// The largest |B| with 2 × |B| at most 2^f, and the largest |z|.
+    pub fn half(&self) -> i64 {
+        self.unit() / 2
+    }
+}

@@ -1,0 +1,117 @@
+//! Traces.
+
+use super::bits::{BitReader, BitWriter};
+use super::fields::{Fields, HEADER_BYTES};
+use super::Refusal;
+
+/// What a trace tells: the fields, the steps made and their digits, step by step and in a step row by row.
+#[derive(Clone, Debug, PartialEq, Eq)]
+pub struct Record {
+    pub fields: Fields,
+    pub k: usize,
+    pub digits: Vec<i8>,
+}
+
+fn digits_within(digits: &[i8], p: usize) -> bool {
+    let largest = digits.iter().map(|d| d.unsigned_abs()).max();
+    usize::from(largest.unwrap_or(0)) <= p
+}
+
+/// Reads a trace. Refused by 1 to 5, 10, 6, 7, 11.
+pub fn read_trace(trace: &[u8]) -> Result<Record, Refusal> {
+    if trace.len() < HEADER_BYTES + 1 {
+        return Err(Refusal::TooFewBytes);
+    }
+    let fields = Fields::read(&mut BitReader::new(trace))?;
+    let mut rest = BitReader::new(&trace[HEADER_BYTES..]);
+    let k = rest.unsigned(6) as usize;
+    if k > fields.m {
+        return Err(Refusal::StepsMade);
+    }
+    if trace.len() != fields.trace_bytes(k) {
+        return Err(Refusal::Length);
+    }
+    // Eight digits are one field of 40 bits, the last of them lowest.
+    let mut digits = vec![0; k * fields.n];
+    for eight in digits.chunks_mut(8) {
+        let mut field = rest.unsigned(5 * eight.len());
+        for digit in eight.iter_mut().rev() {
+            *digit = (field << 3) as i8 >> 3;
+            field >>= 5;
+        }
+    }
+    if !rest.rest_is_zero() {
+        return Err(Refusal::Filling);
+    }
+    if !digits_within(&digits, fields.p) {
+        return Err(Refusal::Digit);
+    }
+    Ok(Record { fields, k, digits })
+}
+
+/// Writes a trace and gives its bytes. Refused by 2, 14, 3, 4, 5, 10, 11, 23.
+pub fn write_trace(record: &Record, out: &mut [u8]) -> Result<usize, Refusal> {
+    record.fields.check()?;
+    if record.k > record.fields.m {
+        return Err(Refusal::StepsMade);
+    }
+    let digits = &record.digits[..record.k * record.fields.n];
+    if !digits_within(digits, record.fields.p) {
+        return Err(Refusal::Digit);
+    }
+    let bytes = record.fields.trace_bytes(record.k);
+    let out = out.get_mut(..bytes).ok_or(Refusal::NoRoom)?;
+    let mut writer = BitWriter::new(out);
+    record.fields.write(&mut writer);
+    writer.put(record.k as u64, 6);
+    for &digit in digits {
+        writer.put(digit as u64, 5);
+    }
+    writer.finish();
+    Ok(bytes)
+}
+
+#[cfg(test)]
+mod tests {
+    use super::*;
+
+    #[test]
+    fn order_of_the_writer() {
+        let good = Record {
+            fields: Fields {
+                kind: 0,
+                code: 0,
+                p: 1,
+                f: 4,
+                n: 2,
+                m: 4,
+            },
+            k: 1,
+            digits: vec![1, -1],
+        };
+        // Each step spoils something that is looked at earlier.
+        let mut record = good.clone();
+        let mut lent = [7; 4];
+        assert_eq!(write_trace(&record, &mut lent), Err(Refusal::NoRoom));
+        record.digits[1] = -2;
+        assert_eq!(write_trace(&record, &mut lent), Err(Refusal::Digit));
+        record.k = 5;
+        assert_eq!(write_trace(&record, &mut lent), Err(Refusal::StepsMade));
+        record.fields.m = 0;
+        assert_eq!(write_trace(&record, &mut lent), Err(Refusal::Steps));
+        record.fields.f = 41;
+        assert_eq!(write_trace(&record, &mut lent), Err(Refusal::FractionBits));
+        record.fields.p = 0;
+        assert_eq!(write_trace(&record, &mut lent), Err(Refusal::LargestDigit));
+        record.fields.n = 17;
+        assert_eq!(write_trace(&record, &mut lent), Err(Refusal::Order));
+        record.fields.code = 4;
+        assert_eq!(write_trace(&record, &mut lent), Err(Refusal::Kind));
+        assert_eq!(lent, [7; 4]);
+
+        let mut lent = [7; 6];
+        assert_eq!(write_trace(&good, &mut lent), Ok(5));
+        assert_eq!(lent[5], 7);
+        assert_eq!(read_trace(&lent[..5]), Ok(good));
+    }
+}

@@ -1,0 +1,238 @@
+//! The two sides under the same calls: those of emethod.h, with slices for lent memory.
+
+use crate::plain::{calls, write_frame, Fields, Refusal};
+
+/// An answer that carries a refusal, a row and a count.
+#[derive(Clone, Copy, Debug, PartialEq, Eq)]
+pub struct Answer(pub u64);
+
+impl Answer {
+    pub fn refusal(self) -> usize {
+        (self.0 % 256) as usize
+    }
+
+    pub fn row(self) -> usize {
+        (self.0 / 256 % 256) as usize
+    }
+
+    pub fn count(self) -> usize {
+        (self.0 / 65536) as usize
+    }
+}
+
+impl From<Result<usize, Refusal>> for Answer {
+    fn from(result: Result<usize, Refusal>) -> Answer {
+        Answer(match result {
+            Ok(count) => 65536 * count as u64,
+            Err(refusal) => refusal.number() + 256 * refusal.row(),
+        })
+    }
+}
+
+/// The calls of emethod.h.
+pub trait Side {
+    const NAME: &'static str;
+
+    fn check_frame(frame: &[u8]) -> Answer;
+    fn evaluate(frame: &[u8], budget: u64, readings: &mut [i64]) -> Answer;
+    fn write_frame(fields: &Fields, numbers: &[i64], out: &mut [u8]) -> Answer;
+    fn write_trace(frame: &[u8], budget: u64, out: &mut [u8]) -> Answer;
+    fn read_trace(trace: &[u8], words: &mut [i64]) -> Answer;
+    fn probe_load(frame: &[u8], row: usize, column: usize) -> i64;
+    fn rewrite_trace(trace: &[u8], times: u64, out: &mut [u8]) -> Answer;
+}
+
+/// The plain implementation. No call is inlined into a measuring loop, as none of the library's is.
+pub struct Plain;
+
+impl Side for Plain {
+    const NAME: &'static str = "plain";
+
+    #[inline(never)]
+    fn check_frame(frame: &[u8]) -> Answer {
+        calls::check_frame(frame).into()
+    }
+
+    #[inline(never)]
+    fn evaluate(frame: &[u8], budget: u64, readings: &mut [i64]) -> Answer {
+        calls::evaluate(frame, budget, readings).into()
+    }
+
+    #[inline(never)]
+    fn write_frame(fields: &Fields, numbers: &[i64], out: &mut [u8]) -> Answer {
+        write_frame(fields, numbers, out).into()
+    }
+
+    #[inline(never)]
+    fn write_trace(frame: &[u8], budget: u64, out: &mut [u8]) -> Answer {
+        calls::trace_frame(frame, budget, out).into()
+    }
+
+    #[inline(never)]
+    fn read_trace(trace: &[u8], words: &mut [i64]) -> Answer {
+        calls::trace_words(trace, words).into()
+    }
+
+    #[inline(never)]
+    fn probe_load(frame: &[u8], row: usize, column: usize) -> i64 {
+        calls::probe_load(frame, row, column)
+    }
+
+    #[inline(never)]
+    fn rewrite_trace(trace: &[u8], times: u64, out: &mut [u8]) -> Answer {
+        calls::rewrite_trace(trace, times, out).into()
+    }
+}
+
+/// The proved library.
+pub struct Library;
+
+#[cfg(not(feature = "plain-only"))]
+mod linked {
+    use super::{Answer, Fields, Library, Side};
+
+    extern "C" {
+        fn em_check_frame(frame: *const u8, length: usize) -> u64;
+        fn em_evaluate(
+            frame: *const u8,
+            length: usize,
+            budget: u64,
+            readings: *mut i64,
+            room: usize,
+        ) -> u64;
+        fn em_write_frame(
+            kind: usize,
+            code: usize,
+            p: usize,
+            f: usize,
+            n: usize,
+            m: usize,
+            numbers: *const i64,
+            length: usize,
+            out: *mut u8,
+            room: usize,
+        ) -> u64;
+        fn em_write_trace(
+            frame: *const u8,
+            length: usize,
+            budget: u64,
+            out: *mut u8,
+            room: usize,
+        ) -> u64;
+        fn em_read_trace(trace: *const u8, length: usize, words: *mut i64, room: usize) -> u64;
+        fn em_probe_load(frame: *const u8, length: usize, row: usize, column: usize) -> i64;
+        fn em_rewrite_trace(
+            trace: *const u8,
+            length: usize,
+            times: u64,
+            out: *mut u8,
+            room: usize,
+        ) -> u64;
+    }
+
+    // Each call hands on the address and the length of a slice, so the memory is there.
+    impl Side for Library {
+        const NAME: &'static str = "library";
+
+        fn check_frame(frame: &[u8]) -> Answer {
+            Answer(unsafe { em_check_frame(frame.as_ptr(), frame.len()) })
+        }
+
+        fn evaluate(frame: &[u8], budget: u64, readings: &mut [i64]) -> Answer {
+            Answer(unsafe {
+                em_evaluate(
+                    frame.as_ptr(),
+                    frame.len(),
+                    budget,
+                    readings.as_mut_ptr(),
+                    readings.len(),
+                )
+            })
+        }
+
+        fn write_frame(fields: &Fields, numbers: &[i64], out: &mut [u8]) -> Answer {
+            Answer(unsafe {
+                em_write_frame(
+                    fields.kind,
+                    fields.code,
+                    fields.p,
+                    fields.f,
+                    fields.n,
+                    fields.m,
+                    numbers.as_ptr(),
+                    numbers.len(),
+                    out.as_mut_ptr(),
+                    out.len(),
+                )
+            })
+        }
+
+        fn write_trace(frame: &[u8], budget: u64, out: &mut [u8]) -> Answer {
+            Answer(unsafe {
+                em_write_trace(
+                    frame.as_ptr(),
+                    frame.len(),
+                    budget,
+                    out.as_mut_ptr(),
+                    out.len(),
+                )
+            })
+        }
+
+        fn read_trace(trace: &[u8], words: &mut [i64]) -> Answer {
+            Answer(unsafe {
+                em_read_trace(trace.as_ptr(), trace.len(), words.as_mut_ptr(), words.len())
+            })
+        }
+
+        fn probe_load(frame: &[u8], row: usize, column: usize) -> i64 {
+            unsafe { em_probe_load(frame.as_ptr(), frame.len(), row, column) }
+        }
+
+        fn rewrite_trace(trace: &[u8], times: u64, out: &mut [u8]) -> Answer {
+            Answer(unsafe {
+                em_rewrite_trace(
+                    trace.as_ptr(),
+                    trace.len(),
+                    times,
+                    out.as_mut_ptr(),
+                    out.len(),
+                )
+            })
+        }
+    }
+}
+
+/// Without the archive the plain implementation stands in for the library. Its ratios then show what the clock alone makes of two equal sides.
+#[cfg(feature = "plain-only")]
+impl Side for Library {
+    const NAME: &'static str = "plain again";
+
+    fn check_frame(frame: &[u8]) -> Answer {
+        Plain::check_frame(frame)
+    }
+
+    fn evaluate(frame: &[u8], budget: u64, readings: &mut [i64]) -> Answer {
+        Plain::evaluate(frame, budget, readings)
+    }
+
+    fn write_frame(fields: &Fields, numbers: &[i64], out: &mut [u8]) -> Answer {
+        Plain::write_frame(fields, numbers, out)
+    }
+
+    fn write_trace(frame: &[u8], budget: u64, out: &mut [u8]) -> Answer {
+        Plain::write_trace(frame, budget, out)
+    }
+
+    fn read_trace(trace: &[u8], words: &mut [i64]) -> Answer {
+        Plain::read_trace(trace, words)
+    }
+
+    fn probe_load(frame: &[u8], row: usize, column: usize) -> i64 {
+        Plain::probe_load(frame, row, column)
+    }
+
+    fn rewrite_trace(trace: &[u8], times: u64, out: &mut [u8]) -> Answer {
+        Plain::rewrite_trace(trace, times, out)
+    }
+}
