@@ -1,24 +1,26 @@
 -- What reading a trace and writing its record again come to, over the variables of the code.
 use mathlib.Core.Path.{_≡_, refl, sym, ap, _∙_}
 use mathlib.Core.List.{List, _++_}
-use Prim.Native.Nat.{ℕ, zero, suc, _+_, _*_, _-_, _/_, _%_, _<_, _≤_}
-use native.Mathlib.Nat.{div-lt-iff-lt-mul, mod-lt, mul-comm, mul-le-mul}
+use Prim.Native.Nat.{ℕ, zero, suc, _+_, _*_, _<_, _≤_}
+use native.Mathlib.Nat.{mul-le-mul}
 use native.Mathlib.Omega.{arith}
 use borrow.Author.Tests.{ne-eqb, eq-eqb, lt-ltb, le-ltb}
 use lib.IntN.{ℤ, pos}
-use lib.ListN.{length, getD, drop}
-use lib.Seq.{ext-getD}
-use Rattle.integers.specs.Flat.{at, entry, list-from, length-list-from, getD-list-from}
+use lib.ListN.{length, getD, set, drop}
+use lib.Seq.{sets, sets-eq, length-sets}
+use Rattle.integers.specs.Flat.{list-from}
 use Rattle.job.specs.Limits.{Limits, digit-small, steps-small}
 use Rattle.job.specs.declared.Header.{Header}
 use Rattle.trace.specs.Trace.{digit-list, trace-refusal, trace-record, read-answer, writer-refusal, write-answer, write-buffer}
-use Rattle.trace.specs.Digits.{length-digit-list}
+use Rattle.trace.specs.Digits.{length-digit-list, digit-list-more, sets-append}
+use Rattle.trace.specs.Groups.{digits-from}
+use Rattle.trace.proofs.Steps.{store-turn}
 use Rattle.trace.specs.Valid.{accepted-is}
 use Rattle.trace.specs.Theorems.{refused-buffer}
 use Rattle.trace.specs.declared.Record.{Record}
 use Rattle.trace.specs.declared.Recorded.{Recorded}
 use Rattle.trace.specs.declared.TraceWritten.{TraceWritten}
-use Rattle.emethod_c.specs.Foreign.{answer-of, rewritten, rewrites, rewrite-answer, rewrite-buffer, header-words, words-of, word-count, trace-words, words-in, read-words, words-left}
+use Rattle.emethod_c.specs.Foreign.{answer-of, rewritten, rewrites, rewrite-answer, rewrite-buffer, header-words, header-numbers, words-of, word-count, trace-words, words-in, read-words, words-left}
 
 -- ---- a record written again and again
 
@@ -75,8 +77,8 @@ module _ (s : List ℕ) (c : Recorded) (e : c ≡ read-answer s) where
 
 module _ (h : Header) (k : ℕ) where
   module _ (l : Limits h) (m : k ≤ h .m) where
-    most : k ≤ 60
-    most = omega (arith, steps-small h l)
+    pub steps-most : k ≤ 60
+    steps-most = omega (arith, steps-small h l)
 
     small : (i : ℕ) → getD (header-words h k) i 0 ≤ 60
     small zero = omega (arith, l .kind-most)
@@ -85,64 +87,48 @@ module _ (h : Header) (k : ℕ) where
     small (suc (suc (suc zero))) = omega (arith, l .fraction-most)
     small (suc (suc (suc (suc zero)))) = omega (arith, l .order-most)
     small (suc (suc (suc (suc (suc zero))))) = steps-small h l
-    small (suc (suc (suc (suc (suc (suc zero)))))) = most
+    small (suc (suc (suc (suc (suc (suc zero)))))) = steps-most
     small (suc (suc (suc (suc (suc (suc (suc i))))))) = omega arith
 
     pub header-small : (i r : ℕ) → r ≡ getD (header-words h k) i 0 → r < 9223372036854775808
     header-small i r e = omega (arith, small i)
 
-    -- where the digit of a word stands
-    pub place-most : (j : ℕ) → j < h .n * k → 16 * (j / h .n) + j % h .n < 960
-    place-most j q =
-        let p : 0 < h .n = l .order-least in
-        let a : j / h .n < k = div-lt-iff-lt-mul {k = h .n} {x = j} {y = k} p .1 (rw (mul-comm (h .n) k) at q) in
-        let b : j % h .n < h .n = mod-lt j p in
-        omega (arith, most, l .order-most)
-
     pub count-most : word-count h k ≤ 967
-    count-most = omega (arith, mul-le-mul (l .order-most) most)
+    count-most = omega (arith, mul-le-mul (l .order-most) steps-most)
 
-  module _ (ds : List ℤ) where
-    pub header-word-is : (i r : ℕ) → i < 7 → r ≡ getD (header-words h k) i 0 → pos r ≡ at (words-of h k ds) i
-    unfolding words-of
-    header-word-is i r q e = ap pos e ∙ each i q
-      where
-        each : (i : ℕ) → i < 7 → pos (getD (header-words h k) i 0) ≡ at (words-of h k ds) i
-        each zero q = refl
-        each (suc zero) q = refl
-        each (suc (suc zero)) q = refl
-        each (suc (suc (suc zero))) q = refl
-        each (suc (suc (suc (suc zero)))) q = refl
-        each (suc (suc (suc (suc (suc zero))))) q = refl
-        each (suc (suc (suc (suc (suc (suc zero)))))) q = refl
-        each (suc (suc (suc (suc (suc (suc (suc i))))))) q = absurd (omega arith)
+  -- a word of the header that is put
+  pub header-turn : (w out : List ℤ) (i r : ℕ) (z : ℤ) → out ≡ sets w 0 (list-from 0 i (λ t. pos (getD (header-words h k) t 0))) → r ≡ getD (header-words h k) i 0
+      → z ≡ pos r → set out i z ≡ sets w 0 (list-from 0 (i + 1) (λ t. pos (getD (header-words h k) t 0)))
+  header-turn w out i r z e f g =
+      let o : 0 + i ≡ i = omega arith in
+      rw o at (store-turn w out 0 i (λ t. pos (getD (header-words h k) t 0)) z e (g ∙ ap pos f))
 
-    digit-at : (j : ℕ) → j < h .n * k → at ds (16 * (j / h .n) + j % h .n) ≡ at (digit-list (h .n) k ds) j
-    unfolding digit-list
-    digit-at j q = let z : 0 + j ≡ j = omega arith in sym (getD-list-from 0 (h .n * k) (λ t. entry ds (t / h .n) (t % h .n)) j q ∙ rw z)
+  pub header-all : (w out : List ℤ) (i : ℕ) → i ≡ 7 → out ≡ sets w 0 (list-from 0 i (λ t. pos (getD (header-words h k) t 0))) → out ≡ sets w 0 (header-numbers h k)
+  unfolding list-from
+  header-all w out i q e = let f : out ≡ sets w 0 (list-from 0 7 (λ t. pos (getD (header-words h k) t 0))) = rw q at e in f
 
-    pub digit-word-is : (i : ℕ) → 7 ≤ i → i < 7 + h .n * k → at ds (16 * ((i - 7) / h .n) + (i - 7) % h .n) ≡ at (words-of h k ds) i
-    unfolding words-of
-    digit-word-is (suc (suc (suc (suc (suc (suc (suc j))))))) p q =
-        let e : suc (suc (suc (suc (suc (suc (suc j)))))) - 7 ≡ j = omega arith in rw e (digit-at j (omega arith))
-    digit-word-is zero p q = absurd (omega arith)
-    digit-word-is (suc zero) p q = absurd (omega arith)
-    digit-word-is (suc (suc zero)) p q = absurd (omega arith)
-    digit-word-is (suc (suc (suc zero))) p q = absurd (omega arith)
-    digit-word-is (suc (suc (suc (suc zero)))) p q = absurd (omega arith)
-    digit-word-is (suc (suc (suc (suc (suc zero))))) p q = absurd (omega arith)
-    digit-word-is (suc (suc (suc (suc (suc (suc zero)))))) p q = absurd (omega arith)
+  -- the header and all steps are put
+  pub words-all : (ds w mid out : List ℤ) (j : ℕ) → j ≡ k → word-count h k ≤ length w → mid ≡ sets w 0 (header-numbers h k) → out ≡ sets mid 7 (digit-list (h .n) j ds)
+      → out ≡ words-of h k ds ++ drop (word-count h k) w
+  unfolding words-of
+  words-all ds w mid out j q l e f =
+      let c : 0 + length (header-numbers h k ++ digit-list (h .n) k ds) ≡ 7 + h .n * k = omega (arith, length-digit-list (h .n) k ds) in
+      f
+      ∙ rw (e, q) (sym (sets-append w 0 (header-numbers h k) (digit-list (h .n) k ds)))
+      ∙ sets-eq (header-numbers h k ++ digit-list (h .n) k ds) w 0 (omega (arith, c))
+      ∙ ap (λ (x : ℕ). (header-numbers h k ++ digit-list (h .n) k ds) ++ drop x w) c
 
-    length-words : length (words-of h k ds) ≡ 7 + h .n * k
-    unfolding words-of
-    length-words = omega (arith, length-digit-list (h .n) k ds)
+-- the list keeps its length
+pub same-sets : (w out : List ℤ) (i : ℕ) (vs : List ℤ) → out ≡ sets w i vs → length out ≡ length w
+same-sets w out i vs e = ap length e ∙ length-sets w i vs
 
-    -- the words as a function of their places
-    pub words-listed : list-from 0 (7 + h .n * k) (at (words-of h k ds)) ≡ words-of h k ds
-    words-listed =
-        ext-getD (pos 0) _ _ (length-list-from 0 (7 + h .n * k) (at (words-of h k ds)) ∙ sym length-words)
-        (λ t q. let z : 0 + t ≡ t = omega arith in
-        getD-list-from 0 (7 + h .n * k) (at (words-of h k ds)) t (rw (length-list-from 0 (7 + h .n * k) (at (words-of h k ds))) at q) ∙ rw z)
+-- a step that is put
+pub words-turn : (ds w out left : List ℤ) (n j to : ℕ) → 0 < n → to ≡ 7 + n * j → out ≡ sets w 7 (digit-list n j ds) → left ≡ sets out to (digits-from ds (16 * j) n)
+    → left ≡ sets w 7 (digit-list n (j + 1) ds)
+words-turn ds w out left n j to p q e f =
+    let s : j + 1 ≡ suc j = omega arith in
+    let t : to ≡ 7 + length (digit-list n j ds) = omega (arith, length-digit-list n j ds) in
+    f ∙ rw (e, t, s, digit-list-more n j ds p) (sym (sets-append w 7 (digit-list n j ds) (digits-from ds (16 * j) n)))
 
 -- ---- a trace read into words
 

@@ -2,7 +2,7 @@
 -- contracts of src/lib.rt; emethod.h says the same to a caller in C.
 use mathlib.Core.Path.{_≡_}
 use mathlib.Core.Bool.{cond}
-use mathlib.Core.List.{List, [], _∷_, _++_}
+use mathlib.Core.List.{List, [], _∷_, _++_, map}
 use Prim.Native.Nat.{ℕ, zero, suc, _+_, _*_, _%_, _^_}
 use lib.Dec.{ltb, eqb}
 use lib.IntN.{ℤ, pos}
@@ -97,9 +97,11 @@ rewrite-buffer s times out = cond (eqb (trace.read-answer s .refusal) 0) (rewrit
 abbrev pub header-words : Header → ℕ → List ℕ
 header-words h k = h .kind ∷ h .code ∷ h .p ∷ h .f ∷ h .n ∷ h .m ∷ k ∷ []
 
+abbrev pub header-numbers : Header → ℕ → List ℤ
+header-numbers h k = map pos (header-words h k)
+
 unfoldable pub words-of : Header → ℕ → List ℤ → List ℤ
-words-of h k ds =
-    pos (h .kind) ∷ pos (h .code) ∷ pos (h .p) ∷ pos (h .f) ∷ pos (h .n) ∷ pos (h .m) ∷ pos k ∷ trace.digit-list (h .n) k ds
+words-of h k ds = header-numbers h k ++ trace.digit-list (h .n) k ds
 
 abbrev pub word-count : Header → ℕ → ℕ
 word-count h k = 7 + h .n * k

@@ -4,9 +4,10 @@ ghost use mathlib.Core.Path.{_≡_};
 ghost use mathlib.Core.List.{_++_};
 ghost use Prim.Native.Nat.{_+_, _*_, _<_, _≤_};
 ghost use lib.ListN.{length, getD, drop};
-ghost use Rattle.integers.specs.Flat.{at};
+ghost use lib.Seq.{sets};
 ghost use Rattle.job.specs.Limits.{Limits};
 ghost use Rattle.frame.specs.Frame.{write-buffer};
+ghost use Rattle.trace.specs.Groups.{digits-from};
 ghost use Rattle.emethod_c.specs.Foreign.{
   answer-of,
   counted,
@@ -23,6 +24,7 @@ ghost use Rattle.emethod_c.specs.Foreign.{
   rewrite-answer,
   rewrite-buffer,
   header-words,
+  header-numbers,
   words-of,
   word-count,
   read-words,
@@ -181,28 +183,43 @@ fn header_word(h: Header, k: usize, i: usize) -> usize
     w[i]
 }
 
-// One of the words of a trace. After the first seven come the digits, step by step and in a step row by row.
-fn word(h: Header, k: usize, d: &[i8; 960], i: usize) -> i64
-    requires { ⌜ Limits h × (k ≤ h .m) × (i < word-count h k) ⌝ }
-    ensures { λ r. ⌜ r ≡ at (words-of h k (now (d .entry))) i ⌝ }
+// Puts the first seven words of a trace into the list; the words past them stay.
+fn put_header(h: Header, k: usize, words: &mut [i64])
+    requires { ⌜ Limits h × (k ≤ h .m) × (7 ≤ length (now words)) ⌝ }
+    ensures { λ _. ⌜ now (words .exit) ≡ sets (now (words .entry)) 0 (header-numbers h k) ⌝ }
 {
-    if i < 7 {
-        return integers::to_signed(header_word(h, k, i) as u64);
+    let mut i: usize = 0;
+    while i < 7 {
+        words[i] = integers::to_signed(header_word(h, k, i) as u64);
+        i += 1;
     }
-    let j = i - 7;
-    integers::widen(d[16 * (j / h.n) + j % h.n])
 }
 
-// Puts the words of a record into the list; the words past them stay.
+// Puts n digits, from the place `from` on, into the list from the word `to` on; the other words stay.
+fn put_step(d: &[i8; 960], from: usize, n: usize, words: &mut [i64], to: usize)
+    requires { ⌜ (from + n ≤ 960) × (to + n ≤ length (now words)) × (to ≤ 967) ⌝ }
+    ensures { λ _. ⌜ now (words .exit) ≡ sets (now (words .entry)) to (digits-from (now (d .entry)) from n) ⌝ }
+{
+    let mut x: usize = 0;
+    while x < n {
+        words[to + x] = integers::widen(d[from + x]);
+        x += 1;
+    }
+}
+
+// Puts the words of a record into the list, the digits step by step and in a step row by row; the words past them stay.
 fn put_words(h: Header, k: usize, d: &[i8; 960], words: &mut [i64])
     requires { ⌜ Limits h × (k ≤ h .m) × (word-count h k ≤ length (now words)) ⌝ }
     ensures { λ _. ⌜ now (words .exit) ≡ words-of h k (now (d .entry)) ++ drop (word-count h k) (now (words .entry)) ⌝ }
 {
-    let size = 7 + h.n * k;
-    let mut i: usize = 0;
-    while i < size {
-        words[i] = word(h, k, d, i);
-        i += 1;
+    put_header(h, k, words);
+    let n = h.n;
+    let mut to: usize = 7;
+    let mut j: usize = 0;
+    while j < k {
+        put_step(d, 16 * j, n, words, to);
+        to += n;
+        j += 1;
     }
 }
 

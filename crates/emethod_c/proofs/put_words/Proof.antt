@@ -1,65 +1,90 @@
--- The invariant: the list's first i words are the first i of the trace, and the others are as they came. The measure is what is left of the words.
+-- The invariant: after the header's words stand the digits of the first j steps, and the other words are as they came. The measure is what is left of
+-- the steps.
 use mathlib.Core.Path.{_≡_, refl, _∙_}
-use Prim.Native.Nat.{_-_, _≤_}
+use Prim.Native.Nat.{_+_, _-_, _*_, _<_, _≤_}
 use native.Mathlib.Omega.{arith}
-use lib.ListN.{length, length-set}
-use Rattle.integers.specs.Flat.{at}
-use Rattle.evaluator.proofs.Arrays.{number-kept, replaced, replaced-next, replaced-all}
-use Rattle.emethod_c.specs.Foreign.{words-of}
-use Rattle.emethod_c.proofs.Traces.{count-most, words-listed}
+use native.Mathlib.Nat.{mul-suc}
+use lib.ListN.{length}
+use lib.Seq.{sets}
+use Rattle.trace.specs.Trace.{digit-list}
+use Rattle.trace.specs.Digits.{digit-list-none}
+use Rattle.trace.specs.Groups.{digits-from}
+use Rattle.trace.proofs.Steps.{place-room}
+use Rattle.emethod_c.specs.Foreign.{header-numbers, word-count}
+use Rattle.emethod_c.proofs.Traces.{count-most, steps-most, same-sets, words-turn, words-all}
 use Rattle.emethod_c.proofs.put_words.Statement.{statement}
 use Rattle.emethod_c.proofs.put_words.Tie as tie
 
 abbrev Inv-loop : tie.InvT-loop
-Inv-loop h k d words₀ size i₀ words i = (i ≤ size) × (length words ≡ length words₀) × (words ≡ replaced words₀ size (at (words-of h k d)) i)
+Inv-loop k d words₀ n to₀ j₀ words to j = (j ≤ k) × (length words ≡ length words₀) × (to ≡ 7 + n * j) × (words ≡ sets words₀ 7 (digit-list n j d))
 
 abbrev μ-loop : tie.MeasureT-loop
-μ-loop h k d words₀ size i₀ words i = size - i
+μ-loop k d words₀ n to₀ j₀ words to j = k - j
 
-mul-size : tie.Need-mul-size Inv-loop μ-loop
-mul-size c = let b = c .before in omega (arith, count-most (b .args .h) (b .args .k) (b .pre .0) (b .pre .1))
-
-add-size : tie.Need-add-size Inv-loop μ-loop
-add-size c = let b = c .before in omega (arith, count-most (b .args .h) (b .args .k) (b .pre .0) (b .pre .1))
+put-header-requires : tie.Need-put-header-requires Inv-loop μ-loop
+put-header-requires c κs = let b = c .before in (b .pre .0, b .pre .1, omega (arith, b .pre .2))
 
 loop-holds : tie.Need-loop-holds Inv-loop μ-loop
-loop-holds c = (omega arith, refl, refl)
+loop-holds c = (omega arith, refl, omega arith, rw (digit-list-none _ _))
 
-word-requires : tie.Need-word-requires Inv-loop μ-loop
-word-requires c κs = let b = c .before .before .before in (b .pre .0, b .pre .1, c .loop-test .taken)
+-- in a turn: there is a step more in the record, and room for it in the list
+module _ (t : tie.In-loop Inv-loop μ-loop) where
+  last : t .before .loop .j < 60
+  last = let b = t .before .before .before .before .before in omega (arith, t .loop-test .taken, steps-most (b .args .h) (b .args .k) (b .pre .0) (b .pre .1))
 
-mul-t10 : tie.Need-mul-t10 Inv-loop μ-loop
-mul-t10 c = let b = c .before .before .before .before in omega (arith, c .before .loop-test .taken, count-most (b .args .h) (b .args .k) (b .pre .0) (b .pre .1))
+  ends : t .before .loop .to + t .before .before .before .before .before .args .h .n ≤ word-count (t .before .before .before .before .before .args .h) (t .before .before .before .before .before .args .k)
+  ends =
+      let b = t .before .before .before .before .before in
+      omega (arith, t .before .loop .inv .2, place-room (b .args .h .n) (b .args .k) (t .before .loop .j) (t .loop-test .taken))
 
-slice-set-from-words : tie.Need-slice-set-from-words Inv-loop μ-loop
-slice-set-from-words c = omega (arith, c .before .loop-test .taken, c .before .before .loop .inv .1, c .before .before .before .before .pre .2)
+  most : word-count (t .before .before .before .before .before .args .h) (t .before .before .before .before .before .args .k) ≤ 967
+  most = let b = t .before .before .before .before .before in count-most (b .args .h) (b .args .k) (b .pre .0) (b .pre .1)
 
-add-i : tie.Need-add-i Inv-loop μ-loop
-add-i c = let b = c .before .before .before .before in omega (arith, c .before .loop-test .taken, count-most (b .args .h) (b .args .k) (b .pre .0) (b .pre .1))
+  same : length (t .before .loop .words) ≡ length (t .before .before .before .before .before .args .words .now)
+  same =
+      let b = t .before .before .before .before .before in
+      t .before .loop .inv .1 ∙ same-sets (b .args .words .now) _ 0 (header-numbers (b .args .h) (b .args .k)) (t .before .before .before .put-header .ensures)
+
+mul-put-step : tie.Need-mul-put-step Inv-loop μ-loop
+mul-put-step c = omega (arith, last c)
+
+put-step-requires : tie.Need-put-step-requires Inv-loop μ-loop
+put-step-requires c κs =
+    let t = c .before in
+    let b = t .before .before .before .before .before in
+    (omega (arith, last t, b .pre .0 .order-most), omega (arith, ends t, same t, b .pre .2), omega (arith, ends t, most t))
+
+add-to : tie.Need-add-to Inv-loop μ-loop
+add-to c = let t = c .before .before .before in omega (arith, ends t, most t)
+
+add-j : tie.Need-add-j Inv-loop μ-loop
+add-j c = let t = c .before .before .before in omega (arith, last t)
 
 loop-less : tie.Need-loop-less Inv-loop μ-loop
-loop-less c = omega (arith, c .before .loop-test .taken)
+loop-less c = let t = c .before .before .before in omega (arith, t .loop-test .taken)
 
 loop-again : tie.Need-loop-again Inv-loop μ-loop
 loop-again c =
-    let l = c .before .before .loop in
-    let b = c .before .before .before .before in
-    let a = b .args in (
-      omega (arith, c .before .loop-test .taken),
-      simp length-set (l .inv .1),
-      replaced-next (a .words .now) _ (at (words-of (a .h) (a .k) (a .d .now))) (l .words) (l .i) _ (c .before .loop-test .taken) (b .pre .2) (l .inv .2)
-          (number-kept _ (c .word .ok) ∙ c .word .ensures),
+    let t = c .before .before .before in
+    let l = t .before .loop in
+    let b = t .before .before .before .before .before in (
+      omega (arith, t .loop-test .taken),
+      same-sets (l .words) _ (l .to) (digits-from (b .args .d .now) (16 * l .j) (b .args .h .n)) (c .before .put-step .ensures) ∙ l .inv .1,
+      omega (arith, l .inv .2, mul-suc (b .args .h .n) (l .j)),
+      words-turn (b .args .d .now) _ (l .words) _ (b .args .h .n) (l .j) (l .to) (b .pre .0 .order-least) (l .inv .2) (l .inv .3) (c .before .put-step .ensures),
     )
 
 same-length : tie.Need-same-length Inv-loop μ-loop
-same-length c = c .before .loop .inv .1
+same-length c =
+    let b = c .before .before .before .before .before in
+    c .before .loop .inv .1 ∙ same-sets (b .args .words .now) _ 0 (header-numbers (b .args .h) (b .args .k)) (c .before .before .before .put-header .ensures)
 
 returns : tie.Need-returns Inv-loop μ-loop
 returns c =
     let l = c .before .loop in
-    let a = c .before .before .before .args in
-    rw (words-listed (a .h) (a .k) (a .d .now)) at
-    (replaced-all (a .words .now) _ (at (words-of (a .h) (a .k) (a .d .now))) (l .words) (l .i) (omega arith) (l .inv .2))
+    let b = c .before .before .before .before .before in
+    words-all (b .args .h) (b .args .k) (b .args .d .now) (b .args .words .now) _ (l .words) (l .j) (omega arith) (b .pre .2)
+    (c .before .before .before .put-header .ensures) (l .inv .3)
 
 pub put-words-spec : {M : Type 1} → statement M
 put-words-spec =
@@ -67,13 +92,12 @@ put-words-spec =
     (tie.spec
     Inv-loop
     μ-loop
-    mul-size
-    add-size
+    put-header-requires
     loop-holds
-    word-requires
-    mul-t10
-    slice-set-from-words
-    add-i
+    mul-put-step
+    put-step-requires
+    add-to
+    add-j
     loop-less
     loop-again
     same-length
