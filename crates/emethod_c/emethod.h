@@ -24,14 +24,16 @@
 /* Loads a frame and lets it go. count: how many numbers it holds. Refused by 1 to 9. */
 uint64_t em_check_frame(const uint8_t *frame, size_t length);
 
-/* Loads a frame, advances it by the budget, and writes a reading for each row. count: the steps made. Refused by 1 to 9, 23. */
+/* Loads a frame, advances it by the budget, and writes a reading for each row. count: the steps made. Refused by 1 to 9, 23. With budget 0 no step is
+ * made and nothing is refused: each reading is 0. */
 uint64_t em_evaluate(const uint8_t *frame, size_t length, uint64_t budget, int64_t *readings, size_t room);
 
 /* Writes a frame. count: its bytes. Refused by 2, 14, 3, 4, 5, 12, 13, 8, 9, 23. */
 uint64_t em_write_frame(size_t kind, size_t code, size_t p, size_t f, size_t n, size_t m,
                         const int64_t *numbers, size_t length, uint8_t *out, size_t room);
 
-/* Loads a frame, advances it by the budget, and writes its trace. count: the trace's bytes. Refused by 1 to 9, 23. */
+/* Loads a frame, advances it by the budget, and writes its trace. count: the trace's bytes. Refused by 1 to 9, 23. With budget 0 it is the trace after
+ * 0 steps, of 4 bytes. */
 uint64_t em_write_trace(const uint8_t *frame, size_t length, uint64_t budget, uint8_t *out, size_t room);
 
 /* Reads a trace into words: kind, radix code, p, f, n, m, k, then the digits step by step and in a step row by row.
