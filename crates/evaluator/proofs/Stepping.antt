@@ -9,14 +9,14 @@ use native.Mathlib.Omega.{arith}
 use borrow.Author.Tests.{le-ltb}
 use lib.Dec.{ltb}
 use lib.IntN.{ℤ, pos}
-use lib.ListN.{length}
+use lib.ListN.{length, List·getD-eq-default}
 use lib.Seq.{ext-getD}
 use Rattle.integers.specs.Flat.{at, flat-vector, at-flat-vector, length-list-from, getD-list-from, length-stores}
 use Rattle.integers.specs.Maximum.{le-or-lt}
 use Rattle.job.specs.Header.{radix, unit}
 use Rattle.job.specs.Limits.{steps-small}
 use Rattle.job.specs.declared.Header.{Header}
-use Rattle.recurrence.specs.Flat.{Ready, stepped-digits, stepped-residuals}
+use Rattle.recurrence.specs.Flat.{Vector, Ready, stepped-digits, stepped-residuals}
 use Rattle.recurrence.proofs.Stepped.{length-stepped-digits, stepped-digit-past}
 use Rattle.state.specs.Digits.{digits-of}
 use Rattle.state.specs.Sound.{Sound}
@@ -25,6 +25,17 @@ use Rattle.state.specs.declared.State.{State}
 use Rattle.evaluator.specs.Evaluator.{last-digits, chosen-digits, left-residuals, digits-stored, one-step, steps}
 use Rattle.evaluator.proofs.Follow.{steps-header, steps-busy, steps-k, stored-same}
 use Rattle.evaluator.proofs.Kept.{steps-sound, ready}
+
+-- ---- a vector of n rows in an array of 16
+
+vector-flat : (n : ℕ) (B : ℕ → ℤ) → Vector n (flat-vector n B)
+vector-flat n B = record { size = length-list-from 0 16 _; past = λ i l. past i l (le-or-lt 16 i) }
+  where
+    past : (i : ℕ) → n ≤ i → (16 ≤ i) ⊎ (i < 16) → at (flat-vector n B) i ≡ pos 0
+    past i l (inl m) = List·getD-eq-default (flat-vector n B) (pos 0) (omega (arith, length-list-from 0 16 (λ i. cond (ltb i n) (B i) (pos 0))))
+    past i l (inr m) =
+        let e : 0 + i ≡ i = omega arith in
+        getD-list-from 0 16 (λ i. cond (ltb i n) (B i) (pos 0)) i m ∙ rw (e, le-ltb i n l) refl
 
 -- ---- the digits of a step, stored and copied out again
 
@@ -69,6 +80,10 @@ length-digits s (suc j) =
 state-is : (a : State) {b : Bool} {h : Header} {k : ℕ} {g z ds : List ℤ} → b ≡ a .busy → h ≡ a .header → k ≡ a .k → g ≡ a .g → z ≡ a .z → ds ≡ a .digits
     → record { busy = b; header = h; k = k; g = g; z = z; digits = ds } ≡ a
 state-is a eb eh ek eg ez ed = rw (eb, eh, ek, eg, ez, ed) refl
+
+-- the digits of the step before are a vector
+pub reached-vector : {s t : State} {j : ℕ} {z before : List ℤ} → Reached s j t z before → Vector (s .header .n) before
+reached-vector {s} {t} {j} h = rw (h .digits, steps-header s j) (vector-flat (s .header .n) (digits-of (steps s j .digits) (steps s j .k)))
 
 -- after the last turn
 pub reached-end : {s t : State} {j : ℕ} {z before : List ℤ} → Reached s j t z before

@@ -21,6 +21,7 @@ ghost use lib.Dec.{ltb, leb};
 ghost use lib.ListN.{length};
 ghost use Rattle.integers.specs.Flat.{flat-vector};
 ghost use Rattle.job.specs.Refusal.{first-refusal};
+ghost use Rattle.recurrence.specs.Flat.{Vector};
 ghost use Rattle.recurrence.specs.Recurrence.{reading};
 ghost use Rattle.state.specs.Digits.{digits-of};
 ghost use Rattle.state.specs.State.{idle-state};
@@ -110,15 +111,20 @@ fn last_digits(digits: &[i8; 960], k: usize, n: usize) -> [i8; 16]
     d
 }
 
-// Stores the digits d of the step after the k-th, in the rows below n.
-fn store_digits(digits: &mut [i8; 960], k: usize, n: usize, d: &[i8; 16])
-    requires { ⌜ (k < 60) × (n ≤ 16) ⌝ }
-    ensures { λ _. ⌜ now (digits .exit) ≡ digits-stored n k (now (digits .entry)) (now (d .entry)) ⌝ }
+// Stores the digits chosen in the step after the k-th, in the rows below n, and lets the two vectors change places: what was chosen is the step
+// before of the next one. Row by row, since 16 digits copied at once wait for the single ones just written.
+fn hand_on(digits: &mut [i8; 960], k: usize, n: usize, before: &mut [i8; 16], chosen: &mut [i8; 16])
+    requires { ⌜ (k < 60) × (n ≤ 16) × Vector n (now before) × Vector n (now chosen) ⌝ }
+    ensures stored { λ _. ⌜ now (digits .exit) ≡ digits-stored n k (now (digits .entry)) (now (chosen .entry)) ⌝ }
+    ensures swapped { λ _. ⌜ (now (before .exit) ≡ now (chosen .entry)) × (now (chosen .exit) ≡ now (before .entry)) ⌝ }
 {
     let base = 16 * k;
     let mut i: usize = 0;
     while i < n {
-        digits[base + i] = d[i];
+        let swap = before[i];
+        digits[base + i] = chosen[i];
+        before[i] = chosen[i];
+        chosen[i] = swap;
         i += 1;
     }
 }
@@ -147,7 +153,7 @@ fn least(a: u64, b: u64) -> u64
 }
 
 // As many steps as the budget allows and as are left. The digits of the step before and those being chosen are two arrays that change places at
-// each step.
+// each step. Where the rows have their entries is looked up once.
 pub fn advance(s: State, budget: u64) -> Advanced
     ensures { λ r. ⌜ r ≡ advanced s budget ⌝ }
 {
@@ -166,13 +172,23 @@ pub fn advance(s: State, budget: u64) -> Advanced
         let mut z = t.z;
         let mut before = last_digits(&t.digits, k, n);
         let mut chosen = [0i8; 16];
+        let first = recurrence::first_entries(&t.g, n);
+        let past = recurrence::past_entries(&t.g, n);
         let mut j: u64 = 0;
         while j < made {
-            chosen = recurrence::step(&t.g, &mut z, before, n, r, f, p);
-            store_digits(&mut t.digits, k + j as usize, n, &chosen);
-            let swap = before;
-            before = chosen;
-            chosen = swap;
+            recurrence::step(
+                &t.g,
+                &first,
+                &past,
+                &mut z,
+                &before,
+                &mut chosen,
+                n,
+                r,
+                f,
+                p,
+            );
+            hand_on(&mut t.digits, k + j as usize, n, &mut before, &mut chosen);
             j += 1;
         }
         t.z = z;

@@ -1,4 +1,5 @@
 pub mod Choice
 pub mod RowSum
+pub mod Spans
 pub mod Stepped
 pub mod Turn

@@ -1,15 +1,16 @@
 -- The sum of a row as the code makes it, one turn of its loop, and w made of it. Cited by the proofs of `row_sum` and `shifted`.
-use mathlib.Core.Path.{_≡_, refl, sym, _∙_}
+use mathlib.Core.Path.{_≡_, refl, sym, ap, _∙_}
 use mathlib.Core.List.{List}
 use Prim.Native.Nat.{ℕ, _+_, _*_, _^_, _<_, _≤_}
 use native.Mathlib.Numerals.{add-one}
 use native.Mathlib.Omega.{arith}
-use lib.IntN.{ℤ, pos, natAbs, _+ℤ_, _*ℤ_}
+use lib.IntN.{ℤ, pos, natAbs, _+ℤ_, _*ℤ_, +ℤ-idl}
+use lib.ListN.{getD}
 use mir.Syntax.{w8, w64}
 use mir.Val.{SFits, toZ, ofZ}
 use Rattle.integers.specs.Absolute.{Within}
 use Rattle.integers.specs.Machine.{Machine, known, bounded, cast, machs, machine-fits, machine-eq}
-use Rattle.integers.specs.Product.{dot, weight, dot-suc, abs-dot, weight-le, entry-le-weight}
+use Rattle.integers.specs.Product.{dot, weight, dot-zero, dot-suc, abs-dot, weight-le, entry-le-weight}
 use Rattle.integers.specs.Flat.{at, entry}
 use Rattle.recurrence.specs.Flat.{Summable}
 
@@ -22,16 +23,39 @@ module _ {g d : List ℤ} {i n : ℕ} (h : Summable g i n d) where
       let w : weight j (entry g i) ≤ j * 2 ^ 40 = weight-le j (entry g i) (2 ^ 40) (λ k m. entry-small k (omega arith)) in
       omega (arith, abs-dot j (entry g i) (at d) 15 (λ k m. h .digits k (omega arith)), h .order)
 
+  -- `x` is what `widen` gave of the digit
+  digit-is : (j : ℕ) → j < n → (x : ℤ) → x ≡ toZ w8 (ofZ w8 (at d j)) → x ≡ at d j
+  digit-is j l x ex = let a = bounded (at d j) 15 (h .digits j l) in ex ∙ machine-eq (search machs depth 9) tt refl
+
+  -- the product in column 0, with which the sum starts; `x` is what `widen` gave of its digit
+  module _ (l : 0 < n) (x : ℤ) (ex : x ≡ toZ w8 (ofZ w8 (at d 0))) where
+    abbrev first-entry : ℤ
+    first-entry = getD g (16 * i) (pos 0)
+
+    abbrev the-first : Machine first-entry
+    the-first =
+        let e : 16 * i ≡ 16 * i + 0 = omega arith in
+        known first-entry (entry g i 0) (2 ^ 40) (ap (λ t. getD g t (pos 0)) e) (entry-small 0 l)
+
+    abbrev its-digit : Machine x
+    its-digit = known x (at d 0) 15 (digit-is 0 l x ex) (h .digits 0 l)
+
+    pub first-fits : SFits w64 (toZ w64 (ofZ w64 first-entry) *ℤ toZ w64 (ofZ w64 x))
+    first-fits = let a = the-first in let b = its-digit in machine-fits (search machs depth 9) tt
+
+    one : dot 1 (entry g i) (at d) ≡ entry g i 0 *ℤ at d 0
+    one = dot-suc 0 (entry g i) (at d) ∙ rw (dot-zero (entry g i) (at d)) (+ℤ-idl (entry g i 0 *ℤ at d 0))
+
+    pub sum-first : toZ w64 (ofZ w64 (toZ w64 (ofZ w64 first-entry) *ℤ toZ w64 (ofZ w64 x))) ≡ dot 1 (entry g i) (at d)
+    sum-first = let a = the-first in let b = its-digit in machine-eq (search machs depth 9) tt (sym one)
+
   -- `s` are the bits of the sum over the columns below j, `x` is what `widen` gave of the digit
   module _ (j : ℕ) (l : j < n) (s : ℕ) (es : toZ w64 s ≡ dot j (entry g i) (at d)) (x : ℤ) (ex : x ≡ toZ w8 (ofZ w8 (at d j))) where
     abbrev the-entry : Machine (entry g i j)
     the-entry = bounded (entry g i j) (2 ^ 40) (entry-small j l)
 
-    digit-is : x ≡ at d j
-    digit-is = let a = bounded (at d j) 15 (h .digits j l) in ex ∙ machine-eq (search machs depth 9) tt refl
-
     abbrev the-digit : Machine x
-    the-digit = known x (at d j) 15 digit-is (h .digits j l)
+    the-digit = known x (at d j) 15 (digit-is j l x ex) (h .digits j l)
 
     abbrev the-sum : Machine (toZ w64 s)
     the-sum = known (toZ w64 s) (dot j (entry g i) (at d)) (2 ^ 48) es (part-small j (omega arith))

@@ -1,6 +1,6 @@
 -- One step on lists: which row holds what, that the limits hold again, and that steps from the right-hand sides are the recurrence's.
 -- Cited by the proof of `step`, and by the crates that make several steps.
-use mathlib.Core.Path.{_≡_, sym, ap, subst, _∙_}
+use mathlib.Core.Path.{_≡_, refl, sym, ap, subst, _∙_}
 use mathlib.Core.List.{List}
 use mathlib.Core.Logic.{_⊎_, inl, inr}
 use Prim.Native.Nat.{ℕ, suc, _+_, _*_, _<_, _≤_}
@@ -8,13 +8,14 @@ use native.Mathlib.Numerals.{add-one}
 use native.Mathlib.Omega.{arith}
 use lib.IntN.{ℤ, pos, natAbs, _-ℤ_, _*ℤ_}
 use lib.ListN.{length, set, replicate, getD-replicate, List·getD-eq-default}
+use lib.Seq.{ext-getD}
 use Rattle.integers.specs.Maximum.{le-or-lt}
 use Rattle.integers.specs.Product.{dot-ext}
 use Rattle.recurrence.specs.Selection.{select, select-selects}
 use Rattle.recurrence.specs.Recurrence.{shifted, next-digit, next-residual, residual, digit}
 use Rattle.recurrence.specs.Theorems.{held-next}
 use Rattle.integers.specs.Flat.{at, entry, stores-zero, stores-suc, length-stores, stores-other, stores-at}
-use Rattle.recurrence.specs.Flat.{filled, stepped-digits, stepped-residuals, After, Ready}
+use Rattle.recurrence.specs.Flat.{filled, stepped-digits, stepped-residuals, After, Vector, Ready}
 
 -- ---- a list filled in the rows below n
 
@@ -45,6 +46,40 @@ module _ (f : ℕ → ℤ) (v : List ℤ) where
       by-case (inl m) = subst Q (sym (List·getD-eq-default (filled f v n) (pos 0) (omega (arith, length-filled n)))) z
       by-case (inr m) = subst Q (sym (filled-row n i l m)) (h i l)
 
+-- ---- vectors of n rows
+
+at-zeros : (i : ℕ) → at (replicate 16 (pos 0)) i ≡ pos 0
+at-zeros i = by-case (le-or-lt 16 i)
+  where
+    by-case : (16 ≤ i) ⊎ (i < 16) → at (replicate 16 (pos 0)) i ≡ pos 0
+    by-case (inl m) = List·getD-eq-default (replicate 16 (pos 0)) (pos 0) m
+    by-case (inr m) = getD-replicate 16 i (pos 0) (pos 0) m
+
+pub vector-zeros : (n : ℕ) → Vector n (replicate 16 (pos 0))
+vector-zeros n = record { size = refl; past = λ i l. at-zeros i }
+
+pub vector-filled : (f : ℕ → ℤ) {n : ℕ} {v : List ℤ} → Vector n v → Vector n (filled f v n)
+vector-filled f {n} {v} h = record { size = length-filled f v n ∙ h .size; past = λ i l. filled-past f v n i l ∙ h .past i l }
+
+-- a vector filled with another's rows is that other one
+pub filled-by : {n : ℕ} {a b : List ℤ} → Vector n a → Vector n b → filled (at b) a n ≡ b
+filled-by {n} {a} {b} h k =
+    ext-getD (pos 0) (filled (at b) a n) b (length-filled (at b) a n ∙ h .size ∙ sym (k .size)) (λ i l. same i (omega (arith, l, length-filled (at b) a n)) (le-or-lt n i))
+  where
+    same : (i : ℕ) → i < length a → (n ≤ i) ⊎ (i < n) → at (filled (at b) a n) i ≡ at b i
+    same i l (inl m) = filled-past (at b) a n i m ∙ h .past i m ∙ sym (k .past i m)
+    same i l (inr m) = filled-row (at b) a n i m l
+
+-- a vector of n rows filled is the vector of zeros filled
+pub filled-vector : (f : ℕ → ℤ) {n : ℕ} {v : List ℤ} → Vector n v → filled f v n ≡ filled f (replicate 16 (pos 0)) n
+filled-vector f {n} {v} h =
+    ext-getD (pos 0) (filled f v n) (filled f (replicate 16 (pos 0)) n) (length-filled f v n ∙ h .size ∙ sym (length-filled f (replicate 16 (pos 0)) n))
+    (λ i l. same i (omega (arith, length-filled f v n, h .size)) (le-or-lt n i))
+  where
+    same : (i : ℕ) → i < 16 → (n ≤ i) ⊎ (i < n) → at (filled f v n) i ≡ at (filled f (replicate 16 (pos 0)) n) i
+    same i l (inl m) = filled-past f v n i m ∙ h .past i m ∙ sym (filled-past f (replicate 16 (pos 0)) n i m ∙ at-zeros i)
+    same i l (inr m) = filled-row f v n i m (omega (arith, h .size)) ∙ sym (filled-row f (replicate 16 (pos 0)) n i m l)
+
 -- ---- a step
 
 module _ (n r p u : ℕ) (g z d : List ℤ) where
@@ -68,15 +103,15 @@ module _ (n r p u : ℕ) (g z d : List ℤ) where
   -- past them
   pub stepped-digit-past : (i : ℕ) → n ≤ i → at (stepped-digits n r p u g z d) i ≡ pos 0
   unfolding stepped-digits
-  stepped-digit-past i h = filled-past (next-digit n r (select p u) (entry g) (at z) (at d)) (replicate 16 (pos 0)) n i h ∙ zeros (le-or-lt 16 i)
-    where
-      zeros : (16 ≤ i) ⊎ (i < 16) → at (replicate 16 (pos 0)) i ≡ pos 0
-      zeros (inl m) = List·getD-eq-default (replicate 16 (pos 0)) (pos 0) m
-      zeros (inr m) = getD-replicate 16 i (pos 0) (pos 0) m
+  stepped-digit-past i h = vector-filled (next-digit n r (select p u) (entry g) (at z) (at d)) (vector-zeros n) .past i h
 
   pub stepped-residual-past : (i : ℕ) → n ≤ i → at (stepped-residuals n r p u g z d) i ≡ at z i
   unfolding stepped-residuals
   stepped-residual-past i h = filled-past (next-residual n r u (select p u) (entry g) (at z) (at d)) z n i h
+
+  pub stepped-vector : Vector n (stepped-digits n r p u g z d)
+  unfolding stepped-digits
+  stepped-vector = vector-filled (next-digit n r (select p u) (entry g) (at z) (at d)) (vector-zeros n)
 
 -- a step leaves what can make the next one; z′ and d′ are what it gave
 pub ready-next : {n r p u : ℕ} {g z d z′ d′ : List ℤ} → 0 < u → Ready n r p u g z d →

@@ -4,7 +4,7 @@ use mathlib.Core.Path.{_≡_}
 use mathlib.Core.List.{List}
 use Prim.Native.Nat.{ℕ, _<_, _≤_, _^_}
 use lib.IntN.{ℤ, pos, natAbs}
-use lib.ListN.{replicate}
+use lib.ListN.{length, getD, replicate}
 use Rattle.integers.specs.Flat.{at, entry, stores}
 use Rattle.integers.specs.Product.{weight}
 use Rattle.recurrence.specs.Selection.{select}
@@ -30,7 +30,39 @@ pub record After (n r p u : ℕ) (G : ℕ → ℕ → ℤ) (B : ℕ → ℤ) (k 
   pub residuals : (i : ℕ) → i < n → at z i ≡ residual n r u (select p u) G B k i
   pub digits : (i : ℕ) → i < n → at d i ≡ digit n r u (select p u) G B k i
 
+-- ---- where a row has its entries
+
+-- the entries of a row in the columns from a on and below b are 0
+abbrev pub Zeros : (ℕ → ℤ) → ℕ → ℕ → Type 0
+Zeros row a b = (j : ℕ) → a ≤ j → j < b → row j ≡ pos 0
+
+-- past column 0, a row of n columns has no entry other than 0 before lo or from hi on
+pub record Span (row : ℕ → ℤ) (n lo hi : ℕ) : Type 0 where
+  pub first : 1 ≤ lo
+  pub most : lo ≤ n
+  pub last : hi ≤ n
+  pub before : Zeros row 1 lo
+  pub after : Zeros row hi n
+
+-- such a column lo of row i, one for each row, and the same of hi
+abbrev pub Start : ℕ → List ℤ → ℕ → ℕ → Type 0
+Start n g i lo = (1 ≤ lo) × (lo ≤ n) × Zeros (entry g i) 1 lo
+
+abbrev pub Starts : ℕ → List ℤ → List ℕ → Type 0
+Starts n g lo = (i : ℕ) → i < n → Start n g i (getD lo i 0)
+
+abbrev pub End : ℕ → List ℤ → ℕ → ℕ → Type 0
+End n g i hi = (hi ≤ n) × Zeros (entry g i) hi n
+
+abbrev pub Ends : ℕ → List ℤ → List ℕ → Type 0
+Ends n g hi = (i : ℕ) → i < n → End n g i (getD hi i 0)
+
 -- ---- what the code asks
+
+-- a vector of n rows in an array of 16: 0 past row n
+pub record Vector (n : ℕ) (v : List ℤ) : Type 0 where
+  pub size : length v ≡ 16
+  pub past : (i : ℕ) → n ≤ i → at v i ≡ pos 0
 
 -- row i can be summed: no partial sum leaves 64 bits, as an entry weighs at most what its row does
 pub record Summable (g : List ℤ) (i n : ℕ) (d : List ℤ) : Type 0 where

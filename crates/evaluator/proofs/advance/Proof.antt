@@ -6,18 +6,21 @@ use native.Mathlib.Omega.{arith}
 use borrow.Kind.Array.{good-length, eSInt}
 use lib.ListN.{length, length-map}
 use mir.Syntax.{w8}
+use Rattle.recurrence.specs.Flat.{Vector}
+use Rattle.recurrence.proofs.Stepped.{vector-zeros, stepped-vector}
 use Rattle.state.specs.Sound.{Sound}
 use Rattle.state.specs.State.{last-step}
 use Rattle.evaluator.proofs.Calls.{least-most, advance-refuses, advance-makes, advance-takes}
-use Rattle.evaluator.proofs.Stepping.{Reached, Begun, last-small, reached-start, reached-ready, reached-next, reached-end}
+use Rattle.evaluator.proofs.Stepping.{Reached, Begun, last-small, reached-start, reached-ready, reached-vector, reached-next, reached-end}
 use Rattle.evaluator.proofs.advance.Statement.{statement}
 use Rattle.evaluator.proofs.advance.Tie as tie
 
 abbrev Inv-loop : tie.InvT-loop
-Inv-loop budget t₀ k bad refusal made n r f p z₀ before₀ j₀ t z before j = (j ≤ made) × Reached t₀ j t z before
+Inv-loop budget t₀ k bad refusal made n r f p z₀ before₀ chosen₀ first past j₀ t z before chosen j =
+    (j ≤ made) × Reached t₀ j t z before × Vector (t₀ .header .n) chosen
 
 abbrev μ-loop : tie.MeasureT-loop
-μ-loop budget t₀ k bad refusal made n r f p z₀ before₀ j₀ t z before j = made - j
+μ-loop budget t₀ k bad refusal made n r f p z₀ before₀ chosen₀ first past j₀ t z before chosen j = made - j
 
 -- ---- what is known where nothing is refused
 
@@ -47,7 +50,7 @@ begun c =
     }
 
 abbrev decided : tie.At-loop Inv-loop μ-loop → tie.After-least Inv-loop μ-loop
-decided c = c .before .before .before .before .before .before
+decided c = c .before .before .before .before .before .before .before .before .before .before .before .before
 
 -- ---- the needs
 
@@ -69,27 +72,48 @@ radix-requires c κs = begun c .sound .limits .code-most
 last-digits-requires : tie.Need-last-digits-requires Inv-loop μ-loop
 last-digits-requires c κs = let b = begun (c .before .before .before .before) in (omega (arith, last-small b), b .sound .limits .order-most)
 
+first-entries-requires : tie.Need-first-entries-requires Inv-loop μ-loop
+first-entries-requires c κs = let l = begun (c .before .before .before .before .before .before .before) .sound .limits in (l .order-least, l .order-most)
+
+past-entries-requires : tie.Need-past-entries-requires Inv-loop μ-loop
+past-entries-requires c κs = begun (c .before .before .before .before .before .before .before .before .before .before) .sound .limits .order-most
+
 loop-holds : tie.Need-loop-holds Inv-loop μ-loop
-loop-holds c = (omega arith, reached-start _ _ (c .last-digits .ensures))
+loop-holds c = (omega arith, reached-start _ _ (c .before .before .before .before .before .before .last-digits .ensures), vector-zeros _)
+
+-- the turn, and what it was begun with
+abbrev taken : tie.After-step Inv-loop μ-loop → tie.In-loop Inv-loop μ-loop
+taken c = c .before .before .before .before .before .before .before .before
 
 step-requires : tie.Need-step-requires Inv-loop μ-loop
 step-requires c κs =
-    let i = c .before .before .before in
-    let b = begun (decided (i .before)) in
-    (b .sound .limits .fraction-most, reached-ready b (i .loop-test .taken) (i .before .loop .inv .1) _ (i .before .before .before .before .before .before .radix .ensures))
+    let i = c .before .before .before .before .before .before .before in
+    let l = i .before in
+    let b = begun (decided l) in
+    let h = l .loop .inv .1 in (
+      b .sound .limits .fraction-most,
+      reached-ready b (i .loop-test .taken) h _ (l .before .before .before .before .before .before .before .before .before .before .before .radix .ensures),
+      l .loop .inv .2,
+      rw (h .state) (l .before .before .before .before .first-entries .ensures),
+      rw (h .state) (l .before .past-entries .ensures),
+    )
 
-add-store-digits : tie.Need-add-store-digits Inv-loop μ-loop
-add-store-digits c = let i = c .before .before .before .before .before in omega (arith, last-small (begun (decided (i .before))), i .loop-test .taken)
+add-hand-on : tie.Need-add-hand-on Inv-loop μ-loop
+add-hand-on c = let i = taken (c .before) in omega (arith, last-small (begun (decided (i .before))), i .loop-test .taken)
 
-store-digits-requires : tie.Need-store-digits-requires Inv-loop μ-loop
-store-digits-requires c κs =
-    let i = c .before .before .before .before .before .before in
-    let b = begun (decided (i .before)) in
-    (omega (arith, last-small b, i .loop-test .taken), b .sound .limits .order-most)
+hand-on-requires : tie.Need-hand-on-requires Inv-loop μ-loop
+hand-on-requires c κs =
+    let i = taken (c .before .before .before) in
+    let b = begun (decided (i .before)) in (
+      omega (arith, last-small b, i .loop-test .taken),
+      b .sound .limits .order-most,
+      reached-vector (i .before .loop .inv .1),
+      rw (c .before .before .before .step .ensures .0) (stepped-vector _ _ _ _ _ _ _),
+    )
 
 add-j : tie.Need-add-j Inv-loop μ-loop
 add-j c =
-    let i = c .before .before .before .before .before .before .before in
+    let i = taken (c .before .before .before .before) in
     omega (arith, last-small (begun (decided (i .before))), i .loop-test .taken)
 
 loop-less : tie.Need-loop-less Inv-loop μ-loop
@@ -97,11 +121,14 @@ loop-less c = omega arith
 
 loop-again : tie.Need-loop-again Inv-loop μ-loop
 loop-again c =
-    let i = c .before .before .before .before .before .before .before in
-    let t = c .before .before .before .step in (
+    let i = taken (c .before .before .before .before) in
+    let h = i .before .loop .inv .1 in
+    let t = c .before .before .before .before .step .ensures in
+    let o = c .hand-on .ensures in (
       omega arith,
-      reached-next (begun (decided (i .before))) (i .loop-test .taken) (i .before .loop .inv .1) _ (i .before .before .before .before .before .before .radix .ensures)
-          _ _ _ (t .ensures .0) (t .ensures .1) (c .store-digits .ensures),
+      rw (o .1 .0)
+          (reached-next (begun (decided (i .before))) (i .loop-test .taken) h _ (i .before .before .before .before .before .before .before .before .before .before .before .before .radix .ensures) _ _ _ (t .0) (t .1) (o .0)),
+      rw (o .1 .1) (reached-vector h),
     )
 
 add-t : tie.Need-add-t Inv-loop μ-loop
@@ -134,10 +161,12 @@ advance-spec =
     least-requires
     radix-requires
     last-digits-requires
+    first-entries-requires
+    past-entries-requires
     loop-holds
     step-requires
-    add-store-digits
-    store-digits-requires
+    add-hand-on
+    hand-on-requires
     add-j
     loop-less
     loop-again
