@@ -1,7 +1,7 @@
 -- What advance and readings answer, over the locals of their code: by what they are refused, and what they give and leave. Cited by the proofs of
 -- `advance` and `readings`.
 use mathlib.Core.Path.{_≡_, sym, ap, _∙_}
-use mathlib.Core.Bool.{cond}
+use mathlib.Core.Bool.{true, cond}
 use mathlib.Core.List.{List, [], _∷_, _++_}
 use mathlib.Core.Logic.{_⊎_, inl, inr}
 use Prim.Native.Nat.{ℕ, _+_, _-_, _<_, _≤_}
@@ -52,14 +52,15 @@ module _ (s : State) (budget bad refusal : ℕ) (checked : bad ≡ first-refusal
   unfolding advanced steps-made
   advance-makes made t h em et = rw (← refusal-is, eq-eqb refusal 0 h, ← em) (ap (λ (t : State). record { refusal = refusal; made = made; state = t }) et)
 
-  -- where nothing is refused the state is sound, and steps are left
-  pub advance-takes : refusal ≡ 0 → Sound s × (s .k < last-step (s .header))
+  -- where nothing is refused the state is busy and sound, and steps are left
+  pub advance-takes : refusal ≡ 0 → (s .busy ≡ true) × Sound s × (s .k < last-step (s .header))
   unfolding advance-checks
   advance-takes h = takes (accepted-exactly (advance-checks s budget) tt .0 (sym refusal-is ∙ h))
     where
-      takes : None (advance-checks s budget) → Sound s × (s .k < last-step (s .header))
+      takes : None (advance-checks s budget) → (s .busy ≡ true) × Sound s × (s .k < last-step (s .header))
       takes (also idle (also broken (also none-left (also made none)))) =
-          (passes-exactly s .0 (accepted-exactly (state-checks s) tt .1 (also idle (also broken none))) .1, nleb→lt (last-step (s .header)) (s .k) made)
+          let p = passes-exactly s .0 (accepted-exactly (state-checks s) tt .1 (also idle (also broken none))) in
+          (p .0, p .1, nleb→lt (last-step (s .header)) (s .k) made)
 
 -- ---- readings
 

@@ -1,28 +1,30 @@
--- The loop of `advance`: a state's arrays after j of its steps, held in locals, and one turn of the loop. Cited by the proof of `advance`.
+-- A loop over steps: a state's arrays after j of its steps, and one turn of the loop. Cited by the proofs of `run_by_rows`, `run_by_columns` and
+-- `advance`.
 use mathlib.Core.Path.{_≡_, refl, sym, ap, _∙_}
 use mathlib.Core.List.{List}
 use mathlib.Core.Logic.{_⊎_, inl, inr}
-use mathlib.Core.Bool.{Bool, cond}
+use mathlib.Core.Bool.{Bool, true, cond}
 use Prim.Native.Nat.{ℕ, zero, suc, _+_, _*_, _<_, _≤_}
 use native.Mathlib.Numerals.{add-one}
 use native.Mathlib.Omega.{arith}
 use borrow.Author.Tests.{le-ltb}
 use lib.Dec.{ltb}
 use lib.IntN.{ℤ, pos}
-use lib.ListN.{length, List·getD-eq-default}
+use lib.ListN.{length, replicate, List·getD-eq-default}
 use lib.Seq.{ext-getD}
 use Rattle.integers.specs.Flat.{at, flat-vector, at-flat-vector, length-list-from, getD-list-from, length-stores}
 use Rattle.integers.specs.Maximum.{le-or-lt}
 use Rattle.job.specs.Header.{radix, unit}
 use Rattle.job.specs.Limits.{steps-small}
 use Rattle.job.specs.declared.Header.{Header}
-use Rattle.recurrence.specs.Flat.{Vector, Ready, stepped-digits, stepped-residuals}
-use Rattle.recurrence.proofs.Stepped.{length-stepped-digits, stepped-digit-past}
+use Rattle.recurrence.specs.Flat.{filled, digit-from, residual-from, stepped-digits, Vector, Ready}
+use Rattle.recurrence.specs.Sums.{Summed}
+use Rattle.recurrence.proofs.Stepped.{vector-zeros, length-stepped-digits, stepped-digit-past, stepped-vector, filled-stepped, filled-left}
 use Rattle.state.specs.Digits.{digits-of}
-use Rattle.state.specs.Sound.{Sound}
-use Rattle.state.specs.State.{last-step}
+use Rattle.state.specs.Sound.{Sound, state-of}
 use Rattle.state.specs.declared.State.{State}
 use Rattle.evaluator.specs.Evaluator.{last-digits, chosen-digits, left-residuals, digits-stored, one-step, steps}
+use Rattle.evaluator.specs.Steppable.{Steppable}
 use Rattle.evaluator.proofs.Follow.{steps-header, steps-busy, steps-k, stored-same}
 use Rattle.evaluator.proofs.Kept.{steps-sound, ready}
 
@@ -52,19 +54,17 @@ module _ (n k : ℕ) (ds d : List ℤ) (order : n ≤ 16) (size : length d ≡ 1
           getD-list-from 0 16 (λ i. cond (ltb i n) (row i) (pos 0)) i l ∙ rw (e, le-ltb i n h) (sym (past i h))
       same i l (inr h) = at-flat-vector n row i order h ∙ stored-same n k ds d i h room order
 
--- ---- what the locals hold after j steps
+-- ---- what the arrays hold after j steps
 
-abbrev pub with-digits : State → List ℤ → State
-with-digits s ds = record { busy = s .busy; header = s .header; k = s .k; g = s .g; z = s .z; digits = ds }
-
-pub record Reached (s : State) (j : ℕ) (t : State) (z before : List ℤ) : Type 0 where
-  pub state : t ≡ with-digits s (steps s j .digits)
+pub record Reached (s : State) (j : ℕ) (ds z before chosen : List ℤ) : Type 0 where
+  pub digits : ds ≡ steps s j .digits
   pub residuals : z ≡ steps s j .z
-  pub digits : before ≡ last-digits (steps s j)
+  pub last : before ≡ last-digits (steps s j)
+  pub spare : Vector (s .header .n) chosen
 
-pub reached-start : (s : State) (before : List ℤ) → before ≡ last-digits s → Reached s 0 s (s .z) before
+pub reached-start : (s : State) (before : List ℤ) → before ≡ last-digits s → Reached s 0 (s .digits) (s .z) before (replicate 16 (pos 0))
 unfolding steps
-reached-start s before e = record { state = refl; residuals = refl; digits = e }
+reached-start s before e = record { digits = refl; residuals = refl; last = e; spare = vector-zeros (s .header .n) }
 
 steps-g : (s : State) (j : ℕ) → steps s j .g ≡ s .g
 unfolding steps one-step
@@ -81,67 +81,73 @@ state-is : (a : State) {b : Bool} {h : Header} {k : ℕ} {g z ds : List ℤ} →
     → record { busy = b; header = h; k = k; g = g; z = z; digits = ds } ≡ a
 state-is a eb eh ek eg ez ed = rw (eb, eh, ek, eg, ez, ed) refl
 
--- the digits of the step before are a vector
-pub reached-vector : {s t : State} {j : ℕ} {z before : List ℤ} → Reached s j t z before → Vector (s .header .n) before
-reached-vector {s} {t} {j} h = rw (h .digits, steps-header s j) (vector-flat (s .header .n) (digits-of (steps s j .digits) (steps s j .k)))
+-- a busy state put together from its parts
+pub busy-whole : (s : State) → s .busy ≡ true → state-of true (s .header) (s .k) (s .g) (s .z) (s .digits) ≡ s
+busy-whole s e = state-is s (sym e) refl refl refl refl refl
 
--- after the last turn
-pub reached-end : {s t : State} {j : ℕ} {z before : List ℤ} → Reached s j t z before
-    → record { busy = t .busy; header = t .header; k = s .k + j; g = t .g; z = z; digits = t .digits } ≡ steps s j
-reached-end {s} {t} {j} {z} h =
-    rw (h .state)
-    (state-is (steps s j) (sym (steps-busy s j)) (sym (steps-header s j)) (sym (steps-k s j)) (sym (steps-g s j)) (h .residuals) refl)
+-- the state put together from the arrays after the last step
+pub steps-whole : (s : State) (j : ℕ) (z ds : List ℤ) → z ≡ steps s j .z → ds ≡ steps s j .digits
+    → record { busy = s .busy; header = s .header; k = s .k + j; g = s .g; z = z; digits = ds } ≡ steps s j
+steps-whole s j z ds ez ed = state-is (steps s j) (sym (steps-busy s j)) (sym (steps-header s j)) (sym (steps-k s j)) (sym (steps-g s j)) ez ed
 
 -- ---- one turn
 
--- what holds before the first step is made: `made` are to be made, and are left
-pub record Begun (s : State) (made : ℕ) : Type 0 where
-  pub sound : Sound s
-  pub room : length (s .digits) ≡ 960
-  pub left : s .k + made ≤ last-step (s .header)
-
-module _ {s : State} {made : ℕ} (b : Begun s made) where
+module _ {s : State} {made : ℕ} (b : Steppable s made) where
   pub last-small : s .k + made ≤ 60
   last-small = omega (arith, b .left, steps-small (s .header) (b .sound .limits))
 
-module _ {s t : State} {made j : ℕ} {z before : List ℤ} (b : Begun s made) (l : j < made) (h : Reached s j t z before) (r : ℕ) (radix-is : r ≡ radix (s .header .code)) where
+module _ {s : State} {made j : ℕ} {ds z before chosen : List ℤ} (b : Steppable s made) (l : j < made) (h : Reached s j ds z before chosen) where
   abbrev S : State
   S = steps s j
 
   sound : Sound S
   sound = steps-sound s j (b .sound) (omega (arith, b .left))
 
-  -- the step can be made
-  pub reached-ready : Ready (s .header .n) r (s .header .p) (unit (s .header)) (t .g) z before
-  reached-ready = rw (h .state, h .residuals, h .digits, radix-is, steps-header s j) (rw (steps-header s j, steps-g s j) at (ready S sound))
+  -- the digits of the step before are a vector
+  pub reached-vector : Vector (s .header .n) before
+  reached-vector = rw (h .last, steps-header s j) (vector-flat (s .header .n) (digits-of (S .digits) (S .k)))
 
-  -- and one turn makes it: `chosen` and `next` are what `step` gave, `ds` what `store_digits` left
-  module _ (chosen next ds : List ℤ) (ec : chosen ≡ stepped-digits (s .header .n) r (s .header .p) (unit (s .header)) (t .g) z before)
-      (en : next ≡ stepped-residuals (s .header .n) r (s .header .p) (unit (s .header)) (t .g) z before)
-      (ed : ds ≡ digits-stored (s .header .n) (s .k + j) (t .digits) chosen) where
-    chosen-is : chosen ≡ chosen-digits S
-    chosen-is = ec ∙ rw (h .state, h .residuals, h .digits, radix-is, steps-header s j, steps-g s j) refl
+  module _ (r : ℕ) (radix-is : r ≡ radix (s .header .code)) where
+    -- the step can be made
+    pub reached-ready : Ready (s .header .n) r (s .header .p) (unit (s .header)) (s .g) z before
+    reached-ready = rw (h .residuals, h .last, radix-is, steps-header s j) (rw (steps-header s j, steps-g s j) at (ready S sound))
 
-    next-is : next ≡ left-residuals S
-    next-is = en ∙ rw (h .state, h .residuals, h .digits, radix-is, steps-header s j, steps-g s j) refl
+    -- and one turn makes it: `sums` are the rows' sums, `new` and `next` are what `choose` left, and `ds′`, `before′` and `chosen′` what `hand_on` did
+    module _ {sums new next ds′ before′ chosen′ : List ℤ} (es : Summed (s .header .n) (s .g) before sums)
+        (ec : new ≡ filled (digit-from r (s .header .p) (unit (s .header)) z sums) chosen (s .header .n))
+        (en : next ≡ filled (residual-from r (s .header .p) (unit (s .header)) z sums) z (s .header .n))
+        (ed : ds′ ≡ digits-stored (s .header .n) (s .k + j) ds new) (eb : before′ ≡ new) (ef : chosen′ ≡ before) where
+      stepped-new : new ≡ stepped-digits (s .header .n) r (s .header .p) (unit (s .header)) (s .g) z before
+      stepped-new = ec ∙ filled-stepped es r (s .header .p) (unit (s .header)) z (h .spare)
 
-    stored-is : ds ≡ digits-stored (S .header .n) (S .k) (S .digits) (chosen-digits S)
-    stored-is = ed ∙ rw (h .state, chosen-is, steps-header s j, steps-k s j) refl
+      new-is : new ≡ chosen-digits S
+      new-is = stepped-new ∙ rw (h .residuals, h .last, radix-is, steps-header s j, steps-g s j) refl
 
-    copied : last-digits (one-step S) ≡ chosen-digits S
-    unfolding one-step
-    copied =
-        stored-copied (S .header .n) (S .k) (S .digits) (chosen-digits S) (sound .limits .order-most)
-        (length-stepped-digits (S .header .n) (radix (S .header .code)) (S .header .p) (unit (S .header)) (S .g) (S .z) (last-digits S))
-        (stepped-digit-past (S .header .n) (radix (S .header .code)) (S .header .p) (unit (S .header)) (S .g) (S .z) (last-digits S))
-        (omega (arith, steps-k s j, length-digits s j, b .room, last-small b))
+      next-is : next ≡ left-residuals S
+      next-is =
+          en ∙ filled-left es r (s .header .p) (unit (s .header)) z ∙ rw (h .residuals, h .last, radix-is, steps-header s j, steps-g s j) refl
 
-    pub reached-next : Reached s (j + 1) (with-digits t ds) next chosen
-    unfolding steps one-step
-    reached-next =
-        rw add-one
-        (record {
-          state = rw (h .state) (ap (with-digits s) stored-is);
-          residuals = next-is;
-          digits = chosen-is ∙ sym copied;
-        })
+      stored-is : ds′ ≡ digits-stored (S .header .n) (S .k) (S .digits) (chosen-digits S)
+      stored-is = ed ∙ rw (h .digits, new-is, steps-header s j, steps-k s j) refl
+
+      copied : last-digits (one-step S) ≡ chosen-digits S
+      unfolding one-step
+      copied =
+          stored-copied (S .header .n) (S .k) (S .digits) (chosen-digits S) (sound .limits .order-most)
+          (length-stepped-digits (S .header .n) (radix (S .header .code)) (S .header .p) (unit (S .header)) (S .g) (S .z) (last-digits S))
+          (stepped-digit-past (S .header .n) (radix (S .header .code)) (S .header .p) (unit (S .header)) (S .g) (S .z) (last-digits S))
+          (omega (arith, steps-k s j, length-digits s j, b .room, last-small b))
+
+      pub new-vector : Vector (s .header .n) new
+      new-vector = rw stepped-new (stepped-vector (s .header .n) r (s .header .p) (unit (s .header)) (s .g) z before)
+
+      pub reached-next : Reached s (j + 1) ds′ next before′ chosen′
+      unfolding steps one-step
+      reached-next =
+          rw add-one
+          (record {
+            digits = stored-is;
+            residuals = next-is;
+            last = eb ∙ new-is ∙ sym copied;
+            spare = rw ef reached-vector;
+          })

@@ -1,2 +1,3 @@
 pub mod Evaluator
 pub mod Readable
+pub mod Steppable

@@ -14,7 +14,7 @@
 // proofs/Theorems.antt has what follows from these definitions: which refusals there are and what they leave, and what is counted.
 // proofs/Follow.antt has that the steps are the recurrence's, and proofs/Kept.antt that every state of a loaded job passes 20 and 24.
 ghost use mathlib.Core.Path.{_≡_};
-ghost use mathlib.Core.Bool.{cond};
+ghost use mathlib.Core.Bool.{true, cond};
 ghost use mathlib.Core.List.{[], _∷_};
 ghost use Prim.Native.Nat.{_<_, _≤_};
 ghost use lib.Dec.{ltb, leb};
@@ -24,17 +24,21 @@ ghost use Rattle.job.specs.Refusal.{first-refusal};
 ghost use Rattle.recurrence.specs.Flat.{Vector};
 ghost use Rattle.recurrence.specs.Recurrence.{reading};
 ghost use Rattle.state.specs.Digits.{digits-of};
+ghost use Rattle.state.specs.Sound.{state-of};
 ghost use Rattle.state.specs.State.{idle-state};
 ghost use Rattle.evaluator.specs.Evaluator.{
   loaded,
   digits-stored,
   no-budget,
   least,
+  steps,
   advanced,
   readings-refusal,
   readings-list,
 };
 ghost use Rattle.evaluator.specs.Readable.{Readable};
+ghost use Rattle.evaluator.specs.Steppable.{Steppable};
+use job::Header;
 use state::State;
 
 // What load answers: a refusal number, 0 where there is none, the row given with it, and the state.
@@ -152,8 +156,105 @@ fn least(a: u64, b: u64) -> u64
     if a <= b { a } else { b }
 }
 
-// As many steps as the budget allows and as are left. The digits of the step before and those being chosen are two arrays that change places at
-// each step. Where the rows have their entries is looked up once.
+// Makes the steps with each row summed over the columns in which it has entries. The digits of the step before and those being chosen are two arrays
+// that change places at each step.
+fn run_by_rows(
+    h: Header,
+    k: usize,
+    made: usize,
+    g: &[i64; 256],
+    z: &mut [i64; 16],
+    digits: &mut [i8; 960],
+)
+    requires { ⌜ Steppable (state-of true h k (now g) (now z) (now digits)) made ⌝ }
+    ensures residuals { λ _. ⌜ now (z .exit) ≡ steps (state-of true h k (now (g .entry)) (now (z .entry)) (now (digits .entry))) made .z ⌝ }
+    ensures digits { λ _. ⌜ now (digits .exit) ≡ steps (state-of true h k (now (g .entry)) (now (z .entry)) (now (digits .entry))) made .digits ⌝ }
+{
+    let n = h.n;
+    let r = job::radix(h.code);
+    let first = recurrence::first_entries(g, n);
+    let past = recurrence::past_entries(g, n);
+    let mut sums = [0i64; 16];
+    let mut before = last_digits(digits, k, n);
+    let mut chosen = [0i8; 16];
+    let mut j: usize = 0;
+    while j < made {
+        recurrence::row_sums(g, &first, &past, &before, n, &mut sums);
+        recurrence::choose(&sums, z, &mut chosen, n, r, h.f, h.p);
+        hand_on(digits, k + j, n, &mut before, &mut chosen);
+        j += 1;
+    }
+}
+
+// The same in radix 2 with the products looked up in a table, column by column.
+fn run_by_columns(
+    h: Header,
+    k: usize,
+    made: usize,
+    g: &[i64; 256],
+    z: &mut [i64; 16],
+    digits: &mut [i8; 960],
+)
+    requires { ⌜ Steppable (state-of true h k (now g) (now z) (now digits)) made × (h .p ≡ 1) ⌝ }
+    ensures residuals { λ _. ⌜ now (z .exit) ≡ steps (state-of true h k (now (g .entry)) (now (z .entry)) (now (digits .entry))) made .z ⌝ }
+    ensures digits { λ _. ⌜ now (digits .exit) ≡ steps (state-of true h k (now (g .entry)) (now (z .entry)) (now (digits .entry))) made .digits ⌝ }
+{
+    let n = h.n;
+    let r = job::radix(h.code);
+    let table = recurrence::products(g, n);
+    let mut before = last_digits(digits, k, n);
+    let mut chosen = [0i8; 16];
+    let mut j: usize = 0;
+    while j < made {
+        let sums = recurrence::column_sums(&table, &before, n);
+        recurrence::choose(&sums, z, &mut chosen, n, r, h.f, h.p);
+        hand_on(digits, k + j, n, &mut before, &mut chosen);
+        j += 1;
+    }
+}
+
+// Whether a table of products is worth its making: in radix 2, with enough rows and steps, where the first two rows have an entry in the last
+// column. The rows of a polynomial and of a rational curve have few entries.
+fn table_pays(g: &[i64; 256], n: usize, p: usize, made: usize) -> bool
+    requires { ⌜ n ≤ 16 ⌝ }
+    ensures { λ b. ⌜ (b ≡ true → p ≡ 1) ⌝ }
+{
+    if p != 1 {
+        return false;
+    }
+    if n < 8 {
+        return false;
+    }
+    if made < 4 {
+        return false;
+    }
+    if g[n - 1] == 0 {
+        return false;
+    }
+    g[16 + (n - 1)] != 0
+}
+
+// Makes the steps, in the way that is likely to be the faster one.
+fn make_steps(
+    h: Header,
+    k: usize,
+    made: usize,
+    g: &[i64; 256],
+    z: &mut [i64; 16],
+    digits: &mut [i8; 960],
+)
+    requires { ⌜ Steppable (state-of true h k (now g) (now z) (now digits)) made ⌝ }
+    ensures residuals { λ _. ⌜ now (z .exit) ≡ steps (state-of true h k (now (g .entry)) (now (z .entry)) (now (digits .entry))) made .z ⌝ }
+    ensures digits { λ _. ⌜ now (digits .exit) ≡ steps (state-of true h k (now (g .entry)) (now (z .entry)) (now (digits .entry))) made .digits ⌝ }
+{
+    if table_pays(g, h.n, h.p, made) {
+        run_by_columns(h, k, made, g, z, digits);
+    } else {
+        run_by_rows(h, k, made, g, z, digits);
+    }
+}
+
+// As many steps as the budget allows and as are left.
 pub fn advance(s: State, budget: u64) -> Advanced
     ensures { λ r. ⌜ r ≡ advanced s budget ⌝ }
 {
@@ -165,33 +266,11 @@ pub fn advance(s: State, budget: u64) -> Advanced
     let mut made: u64 = 0;
     if refusal == 0 {
         made = least(budget, (h.m - k) as u64);
-        let n = h.n;
-        let r = job::radix(h.code);
-        let f = h.f;
-        let p = h.p;
         let mut z = t.z;
-        let mut before = last_digits(&t.digits, k, n);
-        let mut chosen = [0i8; 16];
-        let first = recurrence::first_entries(&t.g, n);
-        let past = recurrence::past_entries(&t.g, n);
-        let mut j: u64 = 0;
-        while j < made {
-            recurrence::step(
-                &t.g,
-                &first,
-                &past,
-                &mut z,
-                &before,
-                &mut chosen,
-                n,
-                r,
-                f,
-                p,
-            );
-            hand_on(&mut t.digits, k + j as usize, n, &mut before, &mut chosen);
-            j += 1;
-        }
+        let mut digits = t.digits;
+        make_steps(h, k, made as usize, &t.g, &mut z, &mut digits);
         t.z = z;
+        t.digits = digits;
         t.k = k + made as usize;
     }
     Advanced {

@@ -12,7 +12,7 @@ use Rattle.integers.specs.Absolute.{Within}
 use Rattle.integers.specs.Machine.{Machine, known, bounded, cast, machs, machine-fits, machine-eq}
 use Rattle.integers.specs.Product.{dot, weight, dot-zero, dot-suc, abs-dot, weight-le, entry-le-weight}
 use Rattle.integers.specs.Flat.{at, entry}
-use Rattle.recurrence.specs.Flat.{Summable}
+use Rattle.recurrence.specs.Sums.{Summable}
 
 module _ {g d : List ℤ} {i n : ℕ} (h : Summable g i n d) where
   entry-small : (j : ℕ) → j < n → natAbs (entry g i j) ≤ 2 ^ 40
@@ -71,19 +71,21 @@ module _ {g d : List ℤ} {i n : ℕ} (h : Summable g i n d) where
         let a = the-entry in let b = the-digit in let c = the-sum in
         machine-eq (search machs depth 9) tt (rw add-one (sym (dot-suc j (entry g i) (at d))))
 
-  -- `s` is what `row_sum` gave
-  module _ (z : ℤ) (r : ℕ) (hz : Within z (2 ^ 40)) (hr : r ≤ 16) (s : ℤ) (es : s ≡ dot n (entry g i) (at d)) where
-    abbrev the-row : Machine s
-    the-row = known s (dot n (entry g i) (at d)) (2 ^ 48) es (part-small n (omega arith))
+  -- what `row_sum` gave, stored
+  pub row-stored : (s : ℤ) → s ≡ dot n (entry g i) (at d) → toZ w64 (ofZ w64 s) ≡ dot n (entry g i) (at d)
+  row-stored s es = let a = known s (dot n (entry g i) (at d)) (2 ^ 48) es (part-small n (omega arith)) in machine-eq (search machs depth 9) tt refl
 
-    abbrev the-radix : Machine (toZ w64 r)
-    the-radix = cast w64 r 16 hr
+-- ---- w, of a row's residual z and its sum s
 
-    pub added-fits : SFits w64 (toZ w64 (ofZ w64 z) +ℤ toZ w64 (ofZ w64 s))
-    added-fits = let a = the-row in machine-fits (search machs depth 9) tt
+module _ (z s : ℤ) (r : ℕ) (hr : r ≤ 16) (hz : Within z (2 ^ 40)) (hs : Within s (2 ^ 48)) where
+  abbrev the-radix : Machine (toZ w64 r)
+  the-radix = cast w64 r 16 hr
 
-    pub shifted-fits : SFits w64 (toZ w64 r *ℤ toZ w64 (ofZ w64 (toZ w64 (ofZ w64 z) +ℤ toZ w64 (ofZ w64 s))))
-    shifted-fits = let a = the-row in let b = the-radix in machine-fits (search machs depth 9) tt
+  pub added-fits : SFits w64 (toZ w64 (ofZ w64 z) +ℤ toZ w64 (ofZ w64 s))
+  added-fits = machine-fits (search machs depth 9) tt
 
-    pub shifted-is : toZ w64 (ofZ w64 (toZ w64 r *ℤ toZ w64 (ofZ w64 (toZ w64 (ofZ w64 z) +ℤ toZ w64 (ofZ w64 s))))) ≡ pos r *ℤ (z +ℤ dot n (entry g i) (at d))
-    shifted-is = let a = the-row in let b = the-radix in machine-eq (search machs depth 9) tt refl
+  pub shifted-fits : SFits w64 (toZ w64 r *ℤ toZ w64 (ofZ w64 (toZ w64 (ofZ w64 z) +ℤ toZ w64 (ofZ w64 s))))
+  shifted-fits = let b = the-radix in machine-fits (search machs depth 9) tt
+
+  pub shifted-is : toZ w64 (ofZ w64 (toZ w64 r *ℤ toZ w64 (ofZ w64 (toZ w64 (ofZ w64 z) +ℤ toZ w64 (ofZ w64 s))))) ≡ pos r *ℤ (z +ℤ s)
+  shifted-is = let b = the-radix in machine-eq (search machs depth 9) tt refl

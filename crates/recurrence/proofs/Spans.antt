@@ -16,11 +16,14 @@ use mir.Facts.{toZ-ofZ}
 use Rattle.integers.specs.Maximum.{le-or-lt}
 use Rattle.integers.specs.Flat.{entry}
 use Rattle.integers.specs.Product.{dot, dot-suc}
-use Rattle.recurrence.specs.Flat.{Zeros, Span, Start, End}
+use Rattle.recurrence.specs.Sums.{Zeros, Span, Start, End}
 
--- an entry whose bits are all 0
+-- an entry as it is read, and one whose bits are all 0
+pub read-back : (x : ℤ) → mag x < 2 ^ 63 → toZ w64 (ofZ w64 x) ≡ x
+read-back x h = toZ-ofZ {w = w64} {z = x} (record { sfits = h })
+
 pub read-zero : (x : ℤ) → mag x < 2 ^ 63 → ofZ w64 x ≡ 0 → x ≡ pos 0
-read-zero x h e = sym (toZ-ofZ {w = w64} {z = x} (record { sfits = h })) ∙ rw e refl
+read-zero x h e = sym (read-back x h) ∙ rw e refl
 
 -- ---- columns of zeros
 

@@ -1,9 +1,9 @@
 -- One step on lists: which row holds what, that the limits hold again, and that steps from the right-hand sides are the recurrence's.
--- Cited by the proof of `step`, and by the crates that make several steps.
+-- Cited by the proofs of the functions that fill an array, and by the crates that make several steps.
 use mathlib.Core.Path.{_≡_, refl, sym, ap, subst, _∙_}
 use mathlib.Core.List.{List}
 use mathlib.Core.Logic.{_⊎_, inl, inr}
-use Prim.Native.Nat.{ℕ, suc, _+_, _*_, _<_, _≤_}
+use Prim.Native.Nat.{ℕ, zero, suc, _+_, _*_, _<_, _≤_}
 use native.Mathlib.Numerals.{add-one}
 use native.Mathlib.Omega.{arith}
 use lib.IntN.{ℤ, pos, natAbs, _-ℤ_, _*ℤ_}
@@ -14,8 +14,9 @@ use Rattle.integers.specs.Product.{dot-ext}
 use Rattle.recurrence.specs.Selection.{select, select-selects}
 use Rattle.recurrence.specs.Recurrence.{shifted, next-digit, next-residual, residual, digit}
 use Rattle.recurrence.specs.Theorems.{held-next}
-use Rattle.integers.specs.Flat.{at, entry, stores-zero, stores-suc, length-stores, stores-other, stores-at}
-use Rattle.recurrence.specs.Flat.{filled, stepped-digits, stepped-residuals, After, Vector, Ready}
+use Rattle.integers.specs.Flat.{at, entry, stores, stores-zero, stores-suc, length-stores, stores-other, stores-at}
+use Rattle.recurrence.specs.Flat.{filled, stepped-digits, stepped-residuals, After, digit-from, residual-from, Vector, Ready}
+use Rattle.recurrence.specs.Sums.{row-dot, Summed}
 
 -- ---- a list filled in the rows below n
 
@@ -38,6 +39,12 @@ module _ (f : ℕ → ℤ) (v : List ℤ) where
   pub filled-row : (n i : ℕ) → i < n → i < length v → at (filled f v n) i ≡ f i
   filled-row n i h l = stores-at v (λ i. i) f n i h l (λ t a b e. omega arith)
 
+  -- only f's values in the rows below n count
+  pub filled-ext : (h : ℕ → ℤ) (n : ℕ) → ((i : ℕ) → i < n → f i ≡ h i) → filled f v n ≡ filled h v n
+  unfolding stores
+  filled-ext h zero e = refl
+  filled-ext h (suc n) e = rw (filled-ext h n (λ i l. e i (omega arith)), e n (omega arith)) refl
+
   -- what holds of f's values and of 0 holds of every row below n, whatever the length
   pub filled-each : (Q : ℤ → Type 0) (n : ℕ) → Q (pos 0) → ((i : ℕ) → i < n → Q (f i)) → (i : ℕ) → i < n → Q (at (filled f v n) i)
   filled-each Q n z h i l = by-case (le-or-lt (length v) i)
@@ -48,7 +55,7 @@ module _ (f : ℕ → ℤ) (v : List ℤ) where
 
 -- ---- vectors of n rows
 
-at-zeros : (i : ℕ) → at (replicate 16 (pos 0)) i ≡ pos 0
+pub at-zeros : (i : ℕ) → at (replicate 16 (pos 0)) i ≡ pos 0
 at-zeros i = by-case (le-or-lt 16 i)
   where
     by-case : (16 ≤ i) ⊎ (i < 16) → at (replicate 16 (pos 0)) i ≡ pos 0
@@ -112,6 +119,21 @@ module _ (n r p u : ℕ) (g z d : List ℤ) where
   pub stepped-vector : Vector n (stepped-digits n r p u g z d)
   unfolding stepped-digits
   stepped-vector = vector-filled (next-digit n r (select p u) (entry g) (at z) (at d)) (vector-zeros n)
+
+-- the rows filled with their sums
+pub filled-summed : {n : ℕ} {g d s : List ℤ} (v : List ℤ) → length v ≡ 16 → n ≤ 16 → s ≡ filled (row-dot n g d) v n → Summed n g d s
+filled-summed {n} {g} {d} {s} v size order e =
+    record { rows = λ i l. rw e (filled-row (row-dot n g d) v n i l (omega (arith, size))) }
+
+-- chosen from the rows' sums, digits and residuals are those of the step
+module _ {n : ℕ} {g d s : List ℤ} (sums : Summed n g d s) (r p u : ℕ) (z : List ℤ) where
+  pub filled-stepped : {v : List ℤ} → Vector n v → filled (digit-from r p u z s) v n ≡ stepped-digits n r p u g z d
+  unfolding stepped-digits next-digit shifted
+  filled-stepped h = filled-vector (digit-from r p u z s) h ∙ filled-ext _ _ _ n (λ i l. rw (sums .rows i l) refl)
+
+  pub filled-left : filled (residual-from r p u z s) z n ≡ stepped-residuals n r p u g z d
+  unfolding stepped-residuals next-residual next-digit shifted
+  filled-left = filled-ext _ _ _ n (λ i l. rw (sums .rows i l) refl)
 
 -- a step leaves what can make the next one; z′ and d′ are what it gave
 pub ready-next : {n r p u : ℕ} {g z d z′ d′ : List ℤ} → 0 < u → Ready n r p u g z d →

@@ -2,11 +2,10 @@
 -- crates whose states hold these arrays.
 use mathlib.Core.Path.{_≡_}
 use mathlib.Core.List.{List}
-use Prim.Native.Nat.{ℕ, _<_, _≤_, _^_}
-use lib.IntN.{ℤ, pos, natAbs}
-use lib.ListN.{length, getD, replicate}
+use Prim.Native.Nat.{ℕ, _+_, _*_, _^_, _<_, _≤_}
+use lib.IntN.{ℤ, pos, natAbs, _+ℤ_, _-ℤ_, _*ℤ_}
+use lib.ListN.{length, replicate}
 use Rattle.integers.specs.Flat.{at, entry, stores}
-use Rattle.integers.specs.Product.{weight}
 use Rattle.recurrence.specs.Selection.{select}
 use Rattle.recurrence.specs.Recurrence.{next-digit, next-residual, residual, digit}
 use Rattle.recurrence.specs.Light.{LightRows, Held}
@@ -30,32 +29,17 @@ pub record After (n r p u : ℕ) (G : ℕ → ℕ → ℤ) (B : ℕ → ℤ) (k 
   pub residuals : (i : ℕ) → i < n → at z i ≡ residual n r u (select p u) G B k i
   pub digits : (i : ℕ) → i < n → at d i ≡ digit n r u (select p u) G B k i
 
--- ---- where a row has its entries
+-- ---- the choice of one step, from the residuals z and the rows' sums s
 
--- the entries of a row in the columns from a on and below b are 0
-abbrev pub Zeros : (ℕ → ℤ) → ℕ → ℕ → Type 0
-Zeros row a b = (j : ℕ) → a ≤ j → j < b → row j ≡ pos 0
+-- document 01's w
+abbrev pub shifted-by : ℕ → List ℤ → List ℤ → ℕ → ℤ
+shifted-by r z s i = pos r *ℤ (at z i +ℤ at s i)
 
--- past column 0, a row of n columns has no entry other than 0 before lo or from hi on
-pub record Span (row : ℕ → ℤ) (n lo hi : ℕ) : Type 0 where
-  pub first : 1 ≤ lo
-  pub most : lo ≤ n
-  pub last : hi ≤ n
-  pub before : Zeros row 1 lo
-  pub after : Zeros row hi n
+abbrev pub digit-from : ℕ → ℕ → ℕ → List ℤ → List ℤ → ℕ → ℤ
+digit-from r p u z s i = select p u (shifted-by r z s i)
 
--- such a column lo of row i, one for each row, and the same of hi
-abbrev pub Start : ℕ → List ℤ → ℕ → ℕ → Type 0
-Start n g i lo = (1 ≤ lo) × (lo ≤ n) × Zeros (entry g i) 1 lo
-
-abbrev pub Starts : ℕ → List ℤ → List ℕ → Type 0
-Starts n g lo = (i : ℕ) → i < n → Start n g i (getD lo i 0)
-
-abbrev pub End : ℕ → List ℤ → ℕ → ℕ → Type 0
-End n g i hi = (hi ≤ n) × Zeros (entry g i) hi n
-
-abbrev pub Ends : ℕ → List ℤ → List ℕ → Type 0
-Ends n g hi = (i : ℕ) → i < n → End n g i (getD hi i 0)
+abbrev pub residual-from : ℕ → ℕ → ℕ → List ℤ → List ℤ → ℕ → ℤ
+residual-from r p u z s i = shifted-by r z s i -ℤ pos u *ℤ digit-from r p u z s i
 
 -- ---- what the code asks
 
@@ -64,12 +48,14 @@ pub record Vector (n : ℕ) (v : List ℤ) : Type 0 where
   pub size : length v ≡ 16
   pub past : (i : ℕ) → n ≤ i → at v i ≡ pos 0
 
--- row i can be summed: no partial sum leaves 64 bits, as an entry weighs at most what its row does
-pub record Summable (g : List ℤ) (i n : ℕ) (d : List ℤ) : Type 0 where
-  pub row : i < 16
+-- a digit can be chosen in every row: |w| is at most p + 1/2 units
+pub record Choosable (n r p u : ℕ) (z s : List ℤ) : Type 0 where
   pub order : n ≤ 16
-  pub light : weight n (entry g i) ≤ 2 ^ 40
-  pub digits : (j : ℕ) → j < n → natAbs (at d j) ≤ 15
+  pub radix : r ≤ 16
+  pub largest : p ≤ 15
+  pub residuals : (i : ℕ) → i < n → natAbs (at z i) ≤ 2 ^ 40
+  pub sums : (i : ℕ) → i < n → natAbs (at s i) ≤ 2 ^ 48
+  pub bound : (i : ℕ) → i < n → 2 * natAbs (shifted-by r z s i) ≤ (2 * p + 1) * u
 
 -- document 01's limits on a job and on its numbers: light rows, residuals of at most 1/2 and digits within p
 pub record Ready (n r p u : ℕ) (g z d : List ℤ) : Type 0 where

@@ -1,5 +1,6 @@
 pub mod System
 pub mod Selection
+pub mod Sums
 pub mod Recurrence
 pub mod Light
 pub mod Row

@@ -1,5 +1,5 @@
 -- Light rows (document 01, "The system") and kept bounds: what the theorems on the recurrence assume of the matrix, and what they hold the steps
--- to. Cited by `Theorems`, by the contract of `step` in `src/lib.rt`, and by the limits on a job.
+-- to. Cited by `Theorems`, by what a step on arrays asks, and by the limits on a job.
 -- u is the unit, p the largest digit, and residuals are to stay within the fraction c / e of a unit: 1/2 in document 01.
 use mathlib.Core.Path.{_≡_, ap, subst}
 use mathlib.Core.Logic.{_↔_}

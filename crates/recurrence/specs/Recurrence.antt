@@ -1,5 +1,5 @@
 -- The recurrence of the E-method (document 01, "One step"), in units of 1/u: one step, the residuals and digits of all steps, and the readings.
--- Cited by every theorem of this crate, by the contract of `step` in `src/lib.rt`, and by the claims about whole jobs.
+-- Cited by every theorem of this crate, by the steps of a state, and by the claims about whole jobs.
 -- Vectors are functions of a row and matrices of a row and a column, of which those below n count.
 use mathlib.Core.Path.{_≡_, refl}
 use Prim.Native.Nat.{ℕ, zero, suc, _<_}

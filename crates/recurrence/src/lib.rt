@@ -1,13 +1,32 @@
-// The recurrence of the E-method on machine integers: the choice of a digit, and one step of all rows. The unit is 2^f; residuals, entries of the
-// matrix and w are in units of 1 / 2^f. specs/ has the definitions and the theorems on them.
+// The recurrence of the E-method on machine integers. A step sums the rows with the digits of the step before, and then chooses a digit in each row. The
+// sums are made in one of two ways: row by row over the columns in which a row has entries, or, in radix 2, column by column from a table of products.
+// The unit is 2^f; residuals, entries of the matrix, sums and w are in units of 1 / 2^f. specs/ has the definitions and the theorems on them.
 ghost use mathlib.Core.Path.{_≡_};
-ghost use Prim.Native.Nat.{_/_, _^_, _<_, _≤_};
+ghost use Prim.Native.Nat.{_+_, _*_, _/_, _^_, _<_, _≤_};
 ghost use lib.IntN.{pos, natAbs, _+ℤ_, _-ℤ_, _*ℤ_};
 ghost use Rattle.integers.specs.Absolute.{Within};
 ghost use Rattle.integers.specs.Product.{dot};
 ghost use Rattle.recurrence.specs.Selection.{digit-size, select};
 ghost use Rattle.integers.specs.Flat.{at, entry};
-ghost use Rattle.recurrence.specs.Flat.{Vector, stepped-digits, stepped-residuals, Span, Start, Starts, End, Ends, Summable, Ready};
+ghost use Rattle.recurrence.specs.Flat.{filled, digit-from, residual-from, Choosable};
+ghost use Rattle.recurrence.specs.Sums.{
+  row-dot,
+  Summable,
+  RowsSummable,
+  Span,
+  Start,
+  Starts,
+  End,
+  Ends,
+  cell,
+  Table,
+  Products,
+  Signs,
+  TableSums,
+  RowsSmall,
+  Addable,
+  added,
+};
 
 // The unit.
 fn unit(f: usize) -> i64
@@ -128,21 +147,93 @@ fn row_sum(g: &[i64; 256], i: usize, n: usize, lo: usize, hi: usize, d: &[i8; 16
     s
 }
 
-// Document 01's w: row i's residual z and its sum, times r.
-fn shifted(
-    g: &[i64; 256],
-    i: usize,
+// The sum of each row below n with the digits d, in s; the other words of s stay.
+pub fn row_sums<'a>(
+    g: &'a [i64; 256],
+    lo: &'a [usize; 16],
+    hi: &'a [usize; 16],
+    d: &'a [i8; 16],
     n: usize,
-    lo: usize,
-    hi: usize,
-    d: &[i8; 16],
-    z: i64,
-    r: usize,
-) -> i64
-    requires { ⌜ Summable (now g) i n (now d) × Span (entry (now g) i) n lo hi × (r ≤ 16) × Within z (2 ^ 40) ⌝ }
-    ensures { λ w. ⌜ w ≡ pos r *ℤ (z +ℤ dot n (entry (now (g .entry)) i) (at (now (d .entry)))) ⌝ }
+    s: &mut [i64; 16],
+)
+    requires { ⌜ (n ≤ 16) × RowsSummable n (now g) (now d) × Starts n (now g) (now lo) × Ends n (now g) (now hi) ⌝ }
+    ensures { λ _. ⌜ now (s .exit) ≡ filled (row-dot n (now (g .entry)) (now (d .entry))) (now (s .entry)) n ⌝ }
 {
-    (r as i64) * (z + row_sum(g, i, n, lo, hi, d))
+    let mut i: usize = 0;
+    while i < n {
+        s[i] = row_sum(g, i, n, lo[i], hi[i], d);
+        i += 1;
+    }
+}
+
+// The entry of row e % 16 in column e / 16, 0 past row n.
+fn cell(g: &[i64; 256], n: usize, e: usize) -> i64
+    requires { ⌜ e < 256 ⌝ }
+    ensures { λ v. ⌜ v ≡ cell n (now (g .entry)) e ⌝ }
+{
+    if e % 16 < n {
+        g[16 * (e % 16) + e / 16]
+    } else {
+        0
+    }
+}
+
+// With digits -1, 0 and 1 a product needs no multiplication: in three blocks, the entries' negatives, zeros and the entries, column after column.
+pub fn products(g: &[i64; 256], n: usize) -> [i64; 768]
+    requires { ⌜ (n ≤ 16) × RowsSmall n (now g) ⌝ }
+    ensures { λ t. ⌜ Products n (now (g .entry)) t ⌝ }
+{
+    let mut t = [0i64; 768];
+    let mut e: usize = 0;
+    while e < 16 * n {
+        let v = cell(g, n, e);
+        t[e] = 0 - v;
+        t[512 + e] = v;
+        e += 1;
+    }
+    t
+}
+
+// Where the products of column j with the digit d start.
+fn column_place(d: i8, j: usize) -> usize
+    requires { ⌜ (natAbs d ≤ 1) × (j < 16) ⌝ }
+    ensures { λ b. ⌜ b ≡ 256 * natAbs (d +ℤ pos 1) + 16 * j ⌝ }
+{
+    256 * (integers::to_unsigned(integers::widen(d) + 1) as usize) + 16 * j
+}
+
+// Adds 16 products of the table, from a place on, to the sums. All 16 rows are taken, so that the machine adds several at once.
+fn add_column(t: &[i64; 768], place: usize, s: &mut [i64; 16])
+    requires { ⌜ (place ≤ 752) × Addable (now t) place (now s) ⌝ }
+    ensures { λ _. ⌜ now (s .exit) ≡ filled (added (now (t .entry)) place (now (s .entry))) (now (s .entry)) 16 ⌝ }
+{
+    let mut i: usize = 0;
+    while i < 16 {
+        s[i] = s[i] + t[place + i];
+        i += 1;
+    }
+}
+
+// The sum of each row with the digits d, from the table of products, column by column.
+pub fn column_sums(t: &[i64; 768], d: &[i8; 16], n: usize) -> [i64; 16]
+    requires { ⌜ (n ≤ 16) × Table n (now t) × Signs n (now d) ⌝ }
+    ensures { λ s. ⌜ TableSums n (now (t .entry)) (now (d .entry)) s ⌝ }
+{
+    let mut s = [0i64; 16];
+    let mut j: usize = 0;
+    while j < n {
+        add_column(t, column_place(d[j], j), &mut s);
+        j += 1;
+    }
+    s
+}
+
+// Document 01's w: a row's residual z and its sum s, times r.
+fn shifted(z: i64, s: i64, r: usize) -> i64
+    requires { ⌜ (r ≤ 16) × Within z (2 ^ 40) × Within s (2 ^ 48) ⌝ }
+    ensures { λ w. ⌜ w ≡ pos r *ℤ (z +ℤ s) ⌝ }
+{
+    (r as i64) * (z + s)
 }
 
 // The residual that digit q leaves of w.
@@ -153,27 +244,24 @@ fn left(w: i64, q: i64, f: usize) -> i64
     w - unit(f) * q
 }
 
-// One step: in `new` the digits chosen from the residuals z and the digits d of the step before, and in z the new residuals. Every row uses the
-// digits d, never one that this step has chosen.
-pub fn step<'a>(
-    g: &'a [i64; 256],
-    lo: &'a [usize; 16],
-    hi: &'a [usize; 16],
+// The choice of one step: in `new` the digits chosen from the residuals z and the rows' sums s with the digits of the step before, and in z the
+// residuals that they leave. No row uses a digit that this step has chosen. The words past row n stay.
+pub fn choose(
+    s: &[i64; 16],
     z: &mut [i64; 16],
-    d: &'a [i8; 16],
     new: &mut [i8; 16],
     n: usize,
     r: usize,
     f: usize,
     p: usize,
 )
-    requires { ⌜ (f ≤ 40) × Ready n r p (2 ^ f) (now g) (now z) (now d) × Vector n (now new) × Starts n (now g) (now lo) × Ends n (now g) (now hi) ⌝ }
-    ensures digits { λ _. ⌜ now (new .exit) ≡ stepped-digits n r p (2 ^ f) (now (g .entry)) (now (z .entry)) (now (d .entry)) ⌝ }
-    ensures residuals { λ _. ⌜ now (z .exit) ≡ stepped-residuals n r p (2 ^ f) (now (g .entry)) (now (z .entry)) (now (d .entry)) ⌝ }
+    requires { ⌜ (f ≤ 40) × Choosable n r p (2 ^ f) (now z) (now s) ⌝ }
+    ensures digits { λ _. ⌜ now (new .exit) ≡ filled (digit-from r p (2 ^ f) (now (z .entry)) (now (s .entry))) (now (new .entry)) n ⌝ }
+    ensures residuals { λ _. ⌜ now (z .exit) ≡ filled (residual-from r p (2 ^ f) (now (z .entry)) (now (s .entry))) (now (z .entry)) n ⌝ }
 {
     let mut i: usize = 0;
     while i < n {
-        let w = shifted(g, i, n, lo[i], hi[i], d, z[i], r);
+        let w = shifted(z[i], s[i], r);
         let q = select(w, f, p);
         new[i] = integers::narrow(q);
         z[i] = left(w, q, f);

@@ -2,7 +2,7 @@
 use mathlib.Core.Path.{refl}
 use Prim.Native.Nat.{_-_, _≤_}
 use native.Mathlib.Omega.{arith}
-use Rattle.recurrence.specs.Flat.{Start}
+use Rattle.recurrence.specs.Sums.{Start}
 use Rattle.recurrence.proofs.Spans.{Found, found-none, found-next}
 use Rattle.recurrence.proofs.first_entries.Statement.{statement}
 use Rattle.recurrence.proofs.first_entries.Tie as tie

@@ -3,7 +3,7 @@ use mathlib.Core.Path.{_≡_}
 use Prim.Native.Nat.{_-_, _≤_}
 use native.Mathlib.Omega.{arith}
 use Rattle.integers.specs.Flat.{entry}
-use Rattle.recurrence.specs.Flat.{Zeros}
+use Rattle.recurrence.specs.Sums.{Zeros}
 use Rattle.recurrence.proofs.Spans.{no-zeros, zeros-after, read-zero}
 use Rattle.recurrence.proofs.first_entry.Statement.{statement}
 use Rattle.recurrence.proofs.first_entry.Tie as tie

@@ -2,7 +2,7 @@
 use mathlib.Core.Path.{refl}
 use Prim.Native.Nat.{_-_, _≤_}
 use native.Mathlib.Omega.{arith}
-use Rattle.recurrence.specs.Flat.{End}
+use Rattle.recurrence.specs.Sums.{End}
 use Rattle.recurrence.proofs.Spans.{Found, found-none, found-next}
 use Rattle.recurrence.proofs.past_entries.Statement.{statement}
 use Rattle.recurrence.proofs.past_entries.Tie as tie

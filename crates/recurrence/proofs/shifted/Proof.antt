@@ -7,17 +7,14 @@ use Rattle.recurrence.proofs.shifted.Tie as tie
 cast-result : tie.Need-cast-result
 cast-result c = search needs
 
-row-sum-requires : tie.Need-row-sum-requires
-row-sum-requires c κs = search needs
-
 add-result : tie.Need-add-result
-add-result c = added-fits (c .before .pre .0) (c .before .args .z) (c .before .args .r) (c .before .pre .3) (c .before .pre .2) _ (c .row-sum .ensures)
+add-result c = added-fits (c .args .z) (c .args .s) (c .args .r) (c .pre .0) (c .pre .1) (c .pre .2)
 
 mul-result : tie.Need-mul-result
-mul-result c = shifted-fits (c .before .pre .0) (c .before .args .z) (c .before .args .r) (c .before .pre .3) (c .before .pre .2) _ (c .row-sum .ensures)
+mul-result c = shifted-fits (c .args .z) (c .args .s) (c .args .r) (c .pre .0) (c .pre .1) (c .pre .2)
 
 returns : tie.Need-returns
-returns c = shifted-is (c .before .pre .0) (c .before .args .z) (c .before .args .r) (c .before .pre .3) (c .before .pre .2) _ (c .row-sum .ensures)
+returns c = shifted-is (c .args .z) (c .args .s) (c .args .r) (c .pre .0) (c .pre .1) (c .pre .2)
 
 pub shifted-spec : {M : Type 1} → statement M
-shifted-spec = tie.close (tie.spec cast-result row-sum-requires add-result mul-result returns)
+shifted-spec = tie.close (tie.spec cast-result add-result mul-result returns)

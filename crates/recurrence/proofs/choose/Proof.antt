@@ -1,25 +1,21 @@
 -- The invariant: the rows below i have their new digits and residuals, and the others are as they were. The measure is what is left of the rows.
-use mathlib.Core.Path.{_≡_, sym, _∙_}
+use mathlib.Core.Path.{_≡_, sym}
 use Prim.Native.Nat.{_-_, _≤_, _^_}
 use native.Mathlib.Omega.{arith}
-use Rattle.recurrence.specs.Selection.{select}
-use Rattle.recurrence.specs.Recurrence.{next-digit, next-residual}
-use Rattle.integers.specs.Flat.{at, entry}
-use Rattle.recurrence.specs.Flat.{filled, stepped-digits, stepped-residuals}
-use Rattle.recurrence.proofs.Spans.{span-of}
-use Rattle.recurrence.proofs.Stepped.{filled-zero, filled-next, filled-vector}
-use Rattle.recurrence.proofs.Turn.{Begun, summable, z-within, w-within, q-within, digit-stored, residual-stored}
-use Rattle.recurrence.proofs.step.Statement.{statement}
-use Rattle.recurrence.proofs.step.Tie as tie
+use Rattle.recurrence.specs.Flat.{filled, digit-from, residual-from}
+use Rattle.recurrence.proofs.Stepped.{filled-zero, filled-next}
+use Rattle.recurrence.proofs.Turn.{Begun, z-within, s-within, w-within, q-within, digit-stored, residual-stored}
+use Rattle.recurrence.proofs.choose.Statement.{statement}
+use Rattle.recurrence.proofs.choose.Tie as tie
 
 abbrev Inv-loop : tie.InvT-loop
-Inv-loop g lo hi z₀ d new₀ n r f p i₀ z new i =
+Inv-loop s z₀ new₀ n r f p i₀ z new i =
     (i ≤ n)
-    × (z ≡ filled (next-residual n r (2 ^ f) (select p (2 ^ f)) (entry g) (at z₀) (at d)) z₀ i)
-    × (new ≡ filled (next-digit n r (select p (2 ^ f)) (entry g) (at z₀) (at d)) new₀ i)
+    × (z ≡ filled (residual-from r p (2 ^ f) z₀ s) z₀ i)
+    × (new ≡ filled (digit-from r p (2 ^ f) z₀ s) new₀ i)
 
 abbrev μ-loop : tie.MeasureT-loop
-μ-loop g lo hi z₀ d new₀ n r f p i₀ z new i = n - i
+μ-loop s z₀ new₀ n r f p i₀ z new i = n - i
 
 loop-holds : tie.Need-loop-holds Inv-loop μ-loop
 loop-holds c = (omega arith, sym (filled-zero _ _), sym (filled-zero _ _))
@@ -36,33 +32,23 @@ mul-shifted-2 c = omega arith
 element-copy-out-shifted-2 : tie.Need-element-copy-out-shifted-2 Inv-loop μ-loop
 element-copy-out-shifted-2 c = omega arith
 
-mul-shifted-3 : tie.Need-mul-shifted-3 Inv-loop μ-loop
-mul-shifted-3 c = omega arith
-
-element-copy-out-shifted-3 : tie.Need-element-copy-out-shifted-3 Inv-loop μ-loop
-element-copy-out-shifted-3 c = omega arith
-
 begun : (c : tie.In-loop Inv-loop μ-loop) → let s = c .before .before in
-    Begun (s .args .g .now) (s .args .z .now) (s .args .d .now) (s .args .n) (s .args .r) (s .args .p) (s .args .f) (c .before .loop .i) (c .before .loop .z)
+    Begun (s .args .z .now) (s .args .s .now) (s .args .n) (s .args .r) (s .args .p) (s .args .f) (c .before .loop .i) (c .before .loop .z)
 begun c =
     let s = c .before .before in
     record { bits = s .pre .0; ready = s .pre .1; below = c .loop-test .taken; so-far = c .before .loop .inv .1 }
 
 shifted-requires : tie.Need-shifted-requires Inv-loop μ-loop
-shifted-requires c κs =
-    let h = begun (c .before .before .before) in
-    let s = c .before .before .before .before .before in
-    let i = c .before .before .before .before .loop .i in
-    (summable h, span-of (s .args .g .now) i (s .pre .3 i (h .below)) (s .pre .4 i (h .below)), h .ready .radix .1, z-within h)
+shifted-requires c κs = let h = begun (c .before .before) in (h .ready .radix, z-within h, s-within h)
 
 select-requires : tie.Need-select-requires Inv-loop μ-loop
 select-requires c κs =
-    let h = begun (c .before .before .before .before) in
+    let h = begun (c .before .before .before) in
     (h .bits, h .ready .largest, w-within h _ (c .shifted .ensures))
 
 narrow-requires : tie.Need-narrow-requires Inv-loop μ-loop
 narrow-requires c κs =
-    let h = begun (c .before .before .before .before .before) in
+    let h = begun (c .before .before .before .before) in
     q-within h _ (c .before .shifted .ensures) _ (c .select .ensures) (omega arith)
 
 element-set-from-new : tie.Need-element-set-from-new Inv-loop μ-loop
@@ -70,12 +56,12 @@ element-set-from-new c = omega arith
 
 left-requires : tie.Need-left-requires Inv-loop μ-loop
 left-requires c κs =
-    let h = begun (c .before .before .before .before .before .before) in
+    let h = begun (c .before .before .before .before .before) in
     let w = c .before .before .shifted .ensures in
     (h .bits, w-within h _ w, q-within h _ w _ (c .before .select .ensures) (omega arith))
 
-mul-t15 : tie.Need-mul-t15 Inv-loop μ-loop
-mul-t15 c = omega arith
+mul-t12 : tie.Need-mul-t12 Inv-loop μ-loop
+mul-t12 c = omega arith
 
 element-set-from-z : tie.Need-element-set-from-z Inv-loop μ-loop
 element-set-from-z c = omega arith
@@ -88,8 +74,8 @@ loop-less c = omega arith
 
 loop-again : tie.Need-loop-again Inv-loop μ-loop
 loop-again c =
-    let l = c .before .before .before .before .before .before .before .before .loop in
-    let h = begun (c .before .before .before .before .before .before .before) in
+    let l = c .before .before .before .before .before .before .before .loop in
+    let h = begun (c .before .before .before .before .before .before) in
     let w = c .before .before .before .shifted .ensures in
     let q = c .before .before .select .ensures in (
       omega arith,
@@ -98,13 +84,12 @@ loop-again c =
     )
 
 returns : tie.Need-returns Inv-loop μ-loop
-unfolding stepped-digits stepped-residuals
 returns c =
     let e : c .before .loop .i ≡ c .before .before .args .n = omega arith in
-    ((rw e at (c .before .loop .inv .2)) ∙ filled-vector _ (c .before .before .pre .2), rw e at (c .before .loop .inv .1))
+    (rw e at (c .before .loop .inv .2), rw e at (c .before .loop .inv .1))
 
-pub step-spec : {M : Type 1} → statement M
-step-spec =
+pub choose-spec : {M : Type 1} → statement M
+choose-spec =
     tie.close
     (tie.spec
     Inv-loop
@@ -114,14 +99,12 @@ step-spec =
     element-copy-out-shifted
     mul-shifted-2
     element-copy-out-shifted-2
-    mul-shifted-3
-    element-copy-out-shifted-3
     shifted-requires
     select-requires
     narrow-requires
     element-set-from-new
     left-requires
-    mul-t15
+    mul-t12
     element-set-from-z
     add-i
     loop-less
