@@ -26,11 +26,12 @@ fn print_bytes(s: &[u8], n: usize) {
     print_newline();
 }
 
-// The text of a frame, as `edigits` prints it.
+// The text of a frame, as `edigits` prints it. The buffer has room enough; of a refused call the length is 0, and nothing is written.
 fn print_text(frame: &[u8]) {
     let mut out = io::large_buffer();
     let r = printout::print_frame(frame, &mut out);
-    io::write_all(1, &out[..r]);
+    let end = r.length;
+    io::write_all(1, &out[..end]);
 }
 
 // The trace of an accepted frame after all steps.

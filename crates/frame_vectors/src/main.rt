@@ -10,11 +10,12 @@ fn wide(x: u8) -> usize
     x as usize
 }
 
-// Prints one frame.
+// Prints one frame. The buffer has room enough; of a refused call the length is 0, and nothing is written.
 fn print_one(frame: &[u8]) {
     let mut out = io::large_buffer();
     let r = printout::print_frame(frame, &mut out);
-    io::write_all(1, &out[..r]);
+    let end = r.length;
+    io::write_all(1, &out[..end]);
 }
 
 // Prints the frames one after the other; what is cut off at the end is left out.

@@ -1,4 +1,4 @@
--- Whole frames: what load and advance make of one, and that the lines put are its text. Cited by the proof of `print_frame`.
+-- Whole frames: what load and advance make of one, and that the lines put are its text. Cited by the proof of `put_frame`.
 use mathlib.Core.Path.{_≡_, sym, ap, _∙_}
 use mathlib.Core.List.{List, [], _∷_}
 use mathlib.Core.Logic.{_⊎_, inl, inr}

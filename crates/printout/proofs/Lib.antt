@@ -1,4 +1,5 @@
 pub mod Lines
 pub mod Jobs
 pub mod Frames
+pub mod Answers
 pub mod Longer

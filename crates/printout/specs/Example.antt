@@ -1,4 +1,4 @@
--- Document 01's example: what `edigits` prints for its case A, and two refused frames. Computed from the definitions.
+-- Document 01's example: what `edigits` prints for its case A, two refused frames, and the least room. Computed from the definitions.
 use mathlib.Core.Path.{_≡_, refl}
 use mathlib.Core.List.{[], _∷_, _++_}
 use Rattle.integers.specs.Flat.{list-from, stores}
@@ -15,7 +15,7 @@ use Rattle.recurrence.specs.Selection.{select, digit-size}
 use Rattle.state.specs.State.{fresh}
 use Rattle.evaluator.specs.Evaluator.{steps, one-step}
 use Rattle.text.specs.Text.{decimal-within, signed-decimal, line-end}
-use Rattle.printout.specs.Printout.{items-from, step-lines, refused-word, frame-text}
+use Rattle.printout.specs.Printout.{items-from, step-lines, refused-word, frame-text, print-checks, print-answer}
 
 -- A
 case-a : frame-text (1 ∷ 16 ∷ 68 ∷ 16 ∷ 50 ∷ 0 ∷ [])
@@ -43,3 +43,12 @@ case-d = refl
 case-h : frame-text [] ≡ refused-word ++ (32 ∷ 49 ∷ 10 ∷ [])
 unfolding frame-text frame-checks decimal-within line-end
 case-h = refl
+
+-- one byte of room too few: 23. With just enough, the text of a refused frame is printed, and the call is not refused
+short-buffer : print-answer [] 32767 ≡ record { refusal = 23; length = 0 }
+unfolding print-checks print-answer
+short-buffer = refl
+
+least-room : print-answer [] 32768 ≡ record { refusal = 0; length = 10 }
+unfolding print-checks print-answer frame-text frame-checks decimal-within line-end
+least-room = refl

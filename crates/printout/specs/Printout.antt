@@ -1,18 +1,21 @@
 -- What `edigits` prints for a frame (document 01, "Frames and digits"): a line kind, r, p, f, n, m; a line for each step, its number and the digits by row;
 -- a line `=` and the readings. A refused frame prints one line: `refused`, the number, and the row for 8 and 9.
-use mathlib.Core.Bool.{cond, _||_}
+use mathlib.Core.Bool.{Bool, cond, _||_}
 use mathlib.Core.List.{List, [], _∷_, _++_}
 use Prim.Native.Nat.{ℕ, zero, suc}
-use lib.Dec.{eqb}
+use lib.Dec.{eqb, ltb}
 use lib.IntN.{ℤ}
+use lib.ListN.{length}
 use Rattle.job.specs.Header.{radix}
+use Rattle.job.specs.Refusal.{Check, first-refusal}
 use Rattle.job.specs.declared.Header.{Header}
 use Rattle.frame.specs.Frame.{frame-refusal, row-of, header-of, frame-numbers}
 use Rattle.state.specs.Digits.{digits-of}
 use Rattle.state.specs.State.{last-step, fresh}
 use Rattle.state.specs.declared.State.{State}
 use Rattle.evaluator.specs.Evaluator.{steps, state-reading}
-use Rattle.text.specs.Text.{decimal, signed-decimal, line}
+use Rattle.text.specs.Text.{decimal, signed-decimal, line, with-text}
+use Rattle.printout.specs.declared.Printed.{Printed}
 
 -- f i, f (i + 1), .. , k of them, in decimal
 unfoldable pub items-from : ℕ → ℕ → (ℕ → ℤ) → List (List ℕ)
@@ -50,3 +53,23 @@ unfoldable pub frame-text : List ℕ → List ℕ
 frame-text s =
     cond (eqb (frame-refusal s) 0) (job-text (steps (fresh (header-of s) (frame-numbers s)) (last-step (header-of s))))
     (refused-text (frame-refusal s) (row-of (frame-refusal s) (header-of s) (frame-numbers s)))
+
+-- ---- print_frame: refused by 23. It is lent `room` bytes
+
+-- 23: fewer bytes than are enough for every text
+abbrev pub buffer-too-short : ℕ → Bool
+buffer-too-short room = ltb room 32768
+
+unfoldable pub print-checks : ℕ → List Check
+print-checks room = (23, buffer-too-short room) ∷ []
+
+abbrev pub print-refusal : ℕ → ℕ
+print-refusal room = first-refusal (print-checks room)
+
+-- the number of bytes, 0 when refused
+unfoldable pub print-answer : List ℕ → ℕ → Printed
+print-answer s room = record { refusal = print-refusal room; length = cond (eqb (print-refusal room) 0) (length (frame-text s)) 0 }
+
+-- the text, and the bytes past it as they were; with a refusal all bytes as they were
+unfoldable pub print-buffer : List ℕ → List ℕ → List ℕ
+print-buffer s out = cond (eqb (print-refusal (length out)) 0) (with-text out 0 (frame-text s)) out

@@ -18,7 +18,23 @@ ghost use Rattle.job.specs.Refusal.{first-refusal};
 ghost use Rattle.state.specs.Digits.{digits-of};
 ghost use Rattle.state.specs.State.{state-checks};
 ghost use Rattle.text.specs.Text.{decimal, line, line-end, with-text, Put};
-ghost use Rattle.printout.specs.Printout.{items-from, header-line, step-lines, readings-line, job-text, refused-text, frame-text};
+ghost use Rattle.printout.specs.Printout.{
+  items-from,
+  header-line,
+  step-lines,
+  readings-line,
+  job-text,
+  refused-text,
+  frame-text,
+  print-answer,
+  print-buffer,
+};
+
+// What print_frame answers: a refusal number of the call itself, 0 where there is none, and the number of bytes put.
+pub struct Printed {
+    pub refusal: usize,
+    pub length: usize,
+}
 
 // p, f, n and m, each after a space, and the newline. Here and below a number is given 20 digits, and a sign.
 fn put_fields(out: &mut [u8], at: usize, h: Header) -> usize
@@ -137,10 +153,10 @@ fn put_job(out: &mut [u8], s: State) -> usize
     put_readings(out, b, s)
 }
 
-// Prints the frame s: its text stands at the front of the buffer, and the bytes past it stay. The answer is the text's length. The room asked
-// for is more than any text takes: a header of 126 bytes, 60 lines of 373 and one of 354. No job has more than 60 steps, so that budget makes
-// them all.
-pub fn print_frame(s: &[u8], out: &mut [u8]) -> usize
+// Puts the text of the frame s at the front of the buffer, and the bytes past it stay. The answer is the text's length. The room asked for is
+// more than any text takes: a header of 126 bytes, 60 lines of 373 and one of 354. No job has more than 60 steps, so that budget makes them
+// all.
+fn put_frame(s: &[u8], out: &mut [u8]) -> usize
     requires { ⌜ 32768 ≤ length (now out) ⌝ }
     ensures { λ r. ⌜ r ≡ length (frame-text (now (s .entry))) ⌝ }
     ensures { λ r. ⌜ now (out .exit) ≡ with-text (now (out .entry)) 0 (frame-text (now (s .entry))) ⌝ }
@@ -151,4 +167,22 @@ pub fn print_frame(s: &[u8], out: &mut [u8]) -> usize
     }
     let a = evaluator::advance(l.state, 60);
     put_job(out, a.state)
+}
+
+// Prints the frame s: its text stands at the front of the buffer, and the bytes past it stay. A buffer of fewer than 32,768 bytes is refused by
+// 23, whatever the frame is, and all its bytes stay. The text of a refused frame is a text like any other, and no refusal of this call.
+pub fn print_frame(s: &[u8], out: &mut [u8]) -> Printed
+    ensures answer { λ r. ⌜ r ≡ print-answer (now (s .entry)) (length (now (out .entry))) ⌝ }
+    ensures buffer { λ _. ⌜ now (out .exit) ≡ print-buffer (now (s .entry)) (now (out .entry)) ⌝ }
+{
+    if out.len() < 32768 {
+        return Printed {
+            refusal: 23,
+            length: 0,
+        };
+    }
+    Printed {
+        refusal: 0,
+        length: put_frame(s, out),
+    }
 }

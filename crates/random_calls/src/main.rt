@@ -1,7 +1,8 @@
 // Calls on states that no load made: any numbers in any field, and jobs made from case A with random changes, so that some of them pass 24. After each
-// call what its contract says is looked at again: a refused advance makes 0 steps and keeps k, an accepted one counts the growth of k, a refused readings
-// keeps every word, and an accepted one keeps the words past the n-th. It prints how many calls of advance and of readings there were for each refusal
-// number, 0 for the accepted ones, and `ok`; at a difference it prints `wrong`.
+// call what its contract says is looked at again, word by word: a refused advance makes 0 steps and gives back every word of the state; an accepted one
+// counts the growth of k, and keeps the header, the matrix, the digits of the steps before and of the steps still to come, and all that stands past the
+// n-th row; a refused readings keeps every word of the list, and an accepted one keeps the words past the n-th. It prints how many calls of advance and of
+// readings there were for each refusal number, 0 for the accepted ones, and `ok`; at a difference it prints `wrong`.
 use job::Header;
 use state::State;
 ghost use mathlib.Core.Path.{_≡_};
@@ -222,19 +223,79 @@ fn count(counts: &mut [u64; 32], refusal: usize) {
     }
 }
 
-// An advance, and whether its answer is right: the count is the growth of k, within the budget, and 0 with a refusal.
+// Whether two headers have the same fields.
+fn same_header(a: Header, b: Header) -> bool {
+    a.kind == b.kind && a.code == b.code && a.p == b.p && a.f == b.f && a.n == b.n && a.m == b.m
+}
+
+// Whether two matrices have the same entries, all 256.
+fn same_matrix(a: &[i64; 256], b: &[i64; 256]) -> bool {
+    let mut i: usize = 0;
+    while i < 256 {
+        if a[i] != b[i] {
+            return false;
+        }
+        i += 1;
+    }
+    true
+}
+
+// Whether the residuals of the rows past the first n, up to the 16th, are the same.
+fn same_residuals(a: &[i64; 16], b: &[i64; 16], n: usize) -> bool {
+    let mut i = n;
+    while i < 16 {
+        if a[i] != b[i] {
+            return false;
+        }
+        i += 1;
+    }
+    true
+}
+
+// Whether the digit at the place i is one that steps may set: of one of the first n rows, in a step after the first k, up to the `last`.
+fn may_change(i: usize, n: usize, k: usize, last: usize) -> bool {
+    i % 16 < n && k <= i / 16 && i / 16 < last
+}
+
+// Whether all 960 digits are the same but those that steps may set.
+fn same_digits(a: &[i8; 960], b: &[i8; 960], n: usize, k: usize, last: usize) -> bool {
+    let mut i: usize = 0;
+    while i < 960 {
+        if a[i] != b[i] && !may_change(i, n, k, last) {
+            return false;
+        }
+        i += 1;
+    }
+    true
+}
+
+// Whether t has every word of s but those that steps set in the first n rows: k, the residuals, and the digits of the steps after the k-th. With
+// n = 0 it has every residual and every digit of s.
+fn words_kept(s: State, t: State, n: usize) -> bool {
+    s.busy == t.busy
+        && same_header(s.header, t.header)
+        && same_matrix(&s.g, &t.g)
+        && same_residuals(&s.z, &t.z, n)
+        && same_digits(&s.digits, &t.digits, n, s.k, t.k)
+}
+
+// Whether the count is the growth of k, above 0 and within the budget.
+fn count_right(before: usize, after: usize, made: u64, budget: u64) -> bool {
+    if after < before || made == 0 || budget < made {
+        return false;
+    }
+    (after - before) as u64 == made
+}
+
+// An advance, and whether its answer and its state are right. With a refusal it counts 0 steps and changes no word of the state.
 fn advance_right(s: State, budget: u64, counts: &mut [u64; 32]) -> bool {
     let a = evaluator::advance(s, budget);
     count(counts, a.refusal);
-    let before = s.k;
-    let after = a.state.k;
+    let t = a.state;
     if a.refusal != 0 {
-        return a.made == 0 && after == before;
+        return a.made == 0 && t.k == s.k && words_kept(s, t, 0);
     }
-    if after < before || a.made == 0 || budget < a.made {
-        return false;
-    }
-    (after - before) as u64 == a.made
+    count_right(s.k, t.k, a.made, budget) && words_kept(s, t, s.header.n)
 }
 
 // The words of a list before readings: word i holds seed and i mixed.

@@ -1,7 +1,7 @@
 -- The text that is written lies within its buffer.
 use mathlib.Core.Path.{sym}
 use lib.Seq.{length-take-le}
-use Rattle.text.proofs.Putting.{text-inside}
+use Rattle.printout.proofs.Answers.{printed-inside}
 use borrow.Author.Needs.{needs}
 use Rattle.frame_vectors.proofs.print_one.Statement.{statement}
 use Rattle.frame_vectors.proofs.print_one.Tie as tie
@@ -16,12 +16,14 @@ print-frame-requires : tie.Need-print-frame-requires
 print-frame-requires c κs = search needs
 
 array-share-prefix-out : tie.Need-array-share-prefix-out
-array-share-prefix-out c = text-inside _ _ (c .before .print-frame .ensures .0) (c .before .print-frame .ensures .1)
+array-share-prefix-out c =
+    let p = c .before .print-frame in
+    printed-inside _ _ (p .result) _ (p .ensures .0) (p .ensures .1)
 
 slice-aggregate-write-all : tie.Need-slice-aggregate-write-all
 slice-aggregate-write-all c =
     let p = c .before .before .print-frame in
-    sym (length-take-le (p .result) (p .last .1 .0) (text-inside _ _ (p .ensures .0) (p .ensures .1)))
+    sym (length-take-le (p .result .length) (p .last .1 .0) (printed-inside _ _ (p .result) _ (p .ensures .0) (p .ensures .1)))
 
 write-all-requires : tie.Need-write-all-requires
 write-all-requires c κs = search needs

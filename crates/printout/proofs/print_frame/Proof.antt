@@ -1,56 +1,27 @@
--- A refused frame's line, or the lines of the job that load and advance made.
+-- Too little room, or the text that was put.
 use native.Mathlib.Omega.{arith}
-use Rattle.printout.proofs.Frames.{refused-whole, printable, accepted-whole}
+use Rattle.printout.proofs.Answers.{answer-refused, answer-printed}
 use borrow.Author.Needs.{needs}
 use Rattle.printout.proofs.print_frame.Statement.{statement}
 use Rattle.printout.proofs.print_frame.Tie as tie
 
-load-requires : tie.Need-load-requires
-load-requires c κs = search needs
+returns : tie.Need-returns
+returns c =
+    let a = c .before .before .before .args in
+    answer-refused (a .s .now) (a .out .now) (omega (arith, c .if1 .taken))
 
-put-refused-requires : tie.Need-put-refused-requires
-put-refused-requires c κs = search needs
+put-frame-requires : tie.Need-put-frame-requires
+put-frame-requires c κs = search needs
 
 same-length : tie.Need-same-length
 same-length c = search needs
 
-returns : tie.Need-returns
-returns c =
-    let d = c .before .before in
-    let l = d .before .before .before .before in
-    refused-whole (l .before .before .before .args .s .now) (l .load .result) (l .load .ensures) (d .before .before .if1 .taken) (d .put-refused .ensures)
-
-advance-requires : tie.Need-advance-requires
-advance-requires c κs = search needs
-
-put-job-requires : tie.Need-put-job-requires
-put-job-requires c κs =
-    let a = c .before in
-    let l = a .before .before .before in (
-      printable (l .before .before .before .args .s .now) (l .load .result) (l .load .ensures) (a .before .if1 .left) (a .advance .result) (a .advance .ensures),
-      omega arith,
-    )
-
-same-length-2 : tie.Need-same-length-2
-same-length-2 c = search needs
-
 returns-2 : tie.Need-returns-2
 returns-2 c =
-    let d = c .before .before in
-    let a = d .before .before in
-    let l = a .before .before .before in
-    accepted-whole (l .before .before .before .args .s .now) (l .load .result) (l .load .ensures) (a .before .if1 .left) (a .advance .result) (a .advance .ensures)
-    (d .put-job .ensures)
+    let p = c .before .before in
+    let e = p .before .before in
+    let a = e .before .before .before .args in
+    answer-printed (a .s .now) (a .out .now) (p .put-frame .result) _ (omega (arith, e .if1 .left)) (p .put-frame .ensures .0) (p .put-frame .ensures .1)
 
 pub print-frame-spec : {M : Type 1} → statement M
-print-frame-spec =
-    tie.close
-    (tie.spec
-    load-requires
-    put-refused-requires
-    same-length
-    returns
-    advance-requires
-    put-job-requires
-    same-length-2
-    returns-2)
+print-frame-spec = tie.close (tie.spec returns put-frame-requires same-length returns-2)
