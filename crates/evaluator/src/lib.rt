@@ -79,7 +79,7 @@ pub fn load(s: &[u8]) -> Loaded
     let c = job::count(h);
     let g = system::matrix(h.kind, h.n, h.f, &v[..c]);
     let z = system::right_sides(h.kind, h.n, &v[..c]);
-    let d = system::verdict(&g, &z, h);
+    let d = system::verdict_small(&g, &z, h);
     if 0 < d.refusal {
         return refused(d.refusal, d.row);
     }

@@ -150,7 +150,7 @@ fn rows_verdict(h: Header, v: &[i64]) -> Verdict
 {
     let g = system::matrix(h.kind, h.n, h.f, v);
     let z = system::right_sides(h.kind, h.n, v);
-    system::verdict(&g, &z, h)
+    system::verdict_small(&g, &z, h)
 }
 
 // Copies v to the front of out; the other words stay.

@@ -1,25 +1,26 @@
 -- The numbers of a job as they are sent: how many there have to be and how large they can be, which the contracts of `matrix` and `right_sides` ask;
 -- and where among them the entries and the right sides stand.
 use mathlib.Core.Path.{_≡_, refl, sym, ap, _∙_}
-use mathlib.Core.Bool.{cond}
+use mathlib.Core.Bool.{Bool, true, false, cond}
 use mathlib.Core.List.{List}
 use Prim.Native.Nat.{ℕ, zero, suc, _+_, _*_, _<_, _≤_, _^_}
 use native.Mathlib.Nat.{mul-le-mul-right}
 use native.Mathlib.Omega.{arith}
 use lib.Dec.{eqb}
-use lib.IntN.{ℤ, pos, negℤ, _-ℤ_, +ℤ-idl}
+use lib.IntN.{ℤ, pos, negℤ, natAbs, _-ℤ_, +ℤ-idl}
 use lib.ListN.{length}
 use lib.Pow.{pow-mono}
 use lib.Signed.{mag}
 use mir.Syntax.{w64}
 use mir.Val.{toZ, ofZ}
 use mir.Facts.{toZ-ofZ}
-use Rattle.integers.specs.Absolute.{Within}
-use Rattle.integers.specs.Flat.{flat-matrix}
+use Rattle.integers.specs.Absolute.{Within, abs-add, abs-neg}
+use Rattle.integers.specs.Flat.{flat-matrix, entry-flat-matrix}
 use Rattle.integers.specs.Machine.{machs, machine-eq}
 use Rattle.job.specs.Header.{count-of}
 use Rattle.job.specs.Limits.{system-count, count-most}
 use Rattle.job.specs.System.{sent, argument, denominator, no-denominator, curve-entry, system-entry, matrix, right-side}
+use Rattle.system.specs.Weighing.{SmallEntries}
 
 -- v has c numbers, none of a magnitude above 2^41
 pub record Numbers (c : ℕ) (v : List ℤ) : Type 0 where
@@ -116,3 +117,33 @@ unfolding matrix
 system-is zero n f u v g a b e h = absurd (a refl)
 system-is (suc zero) n f u v g a b e h = absurd (b refl)
 system-is (suc (suc k)) n f u v g a b e h = rw e at h
+
+-- ---- its entries are small
+
+one-of : (b : Bool) (x y : ℤ) (B : ℕ) → natAbs x ≤ B → natAbs y ≤ B → natAbs (cond b x y) ≤ B
+one-of true x y B h k = h
+one-of false x y B h k = k
+
+system-small : (n u : ℕ) (v : List ℤ) → u ≤ 2 ^ 40 → Numbers (n * (n + 1)) v → (i j : ℕ) → i < n → j < n → natAbs (system-entry u n v i j) ≤ 2 ^ 42
+unfolding system-entry
+system-small n u v h m i j a b =
+    let e = cond (eqb i j) (pos u) (pos 0) in
+    let t = sent v (i * (n + 1) + j) in
+    omega (arith, abs-add e (negℤ t), abs-neg t, one-of (eqb i j) (pos u) (pos 0) (2 ^ 40) h (omega arith), m .small (i * (n + 1) + j) (system-place n i j a (omega arith)) .abs)
+
+curve-small : (n : ℕ) (x : ℤ) (q : ℕ → ℤ) → natAbs x ≤ 2 ^ 41 → ((i : ℕ) → i < n → natAbs (q i) ≤ 2 ^ 41) → (i j : ℕ) → i < n → natAbs (curve-entry x q i j) ≤ 2 ^ 42
+unfolding curve-entry
+curve-small n x q hx hq zero zero a = omega arith
+curve-small n x q hx hq (suc i) zero a = omega (arith, abs-neg (q (suc i)), hq (suc i) a)
+curve-small n x q hx hq i (suc j) a = omega (arith, one-of (eqb j i) x (pos 0) (2 ^ 41) hx (omega arith))
+
+matrix-small : (kind n u : ℕ) (v : List ℤ) → u ≤ 2 ^ 40 → Numbers (count-of kind n) v → (i j : ℕ) → i < n → j < n → natAbs (matrix kind n u v i j) ≤ 2 ^ 42
+unfolding matrix
+matrix-small zero n u v h m i j a b = curve-small n (argument v) no-denominator (m .small 0 (omega arith) .abs) (λ k l. omega arith) i j a
+matrix-small (suc zero) n u v h m i j a b =
+    curve-small n (argument v) (denominator n v) (m .small 0 (omega arith) .abs) (λ k l. m .small (n + k) (omega arith) .abs) i j a
+matrix-small (suc (suc k)) n u v h m i j a b = system-small n u v h m i j a b
+
+pub entries-small : (kind n f : ℕ) (v g : List ℤ) → n ≤ 16 → f ≤ 40 → Numbers (count-of kind n) v → g ≡ flat-matrix n (matrix kind n (2 ^ f) v) → SmallEntries n g
+entries-small kind n f v g order bits m e i j a b =
+    rw (e, entry-flat-matrix n (matrix kind n (2 ^ f) v) i j order a b) (matrix-small kind n (2 ^ f) v (pow-mono {j = 40} bits) m i j a b)

@@ -25,20 +25,20 @@ use Rattle.system.specs.Weighing.{too-heavy, too-large}
 -- ---- from the two searches
 
 -- the verdict, where they give a and b
-abbrev verdict-of : ℕ → ℕ → Verdict
+abbrev pub verdict-of : ℕ → ℕ → Verdict
 verdict-of a b =
     record {
       refusal = first-refusal ((8, ltb 0 a) ∷ (9, ltb 0 b) ∷ []);
       row = cond (eqb (first-refusal ((8, ltb 0 a) ∷ (9, ltb 0 b) ∷ [])) 8) a (cond (eqb (first-refusal ((8, ltb 0 a) ∷ (9, ltb 0 b) ∷ [])) 9) b 0);
     }
 
-of-heavy : (a b : ℕ) → 0 < a → record { refusal = 8; row = a } ≡ verdict-of a b
+pub of-heavy : (a b : ℕ) → 0 < a → record { refusal = 8; row = a } ≡ verdict-of a b
 of-heavy a b h = rw (lt-ltb 0 a h)
 
-of-large : (a b : ℕ) → a ≤ 0 → 0 < b → record { refusal = 9; row = b } ≡ verdict-of a b
+pub of-large : (a b : ℕ) → a ≤ 0 → 0 < b → record { refusal = 9; row = b } ≡ verdict-of a b
 of-large a b h k = rw (le-ltb 0 a h, lt-ltb 0 b k)
 
-of-none : (a b : ℕ) → a ≤ 0 → b ≤ 0 → record { refusal = 0; row = 0 } ≡ verdict-of a b
+pub of-none : (a b : ℕ) → a ≤ 0 → b ≤ 0 → record { refusal = 0; row = 0 } ≡ verdict-of a b
 of-none a b h k = rw (le-ltb 0 a h, le-ltb 0 b k)
 
 none-of : (a b : ℕ) → verdict-of a b .refusal ≡ 0 → (a ≡ 0) × (b ≡ 0)
@@ -61,19 +61,9 @@ module _ (h : Header) (l : Limits h) (g z : List ℤ) where
       first-row-ext (h .n) (too-large M z) (λ i. not (small-enough h (at z i)))
       (λ i k. rw (e, small-is h (at z i)) (sym (not-leb (natAbs (at z i)) (unit h / 2))))
 
-  module _ (L : ℤ) (a : ℕ) (p : L ≡ pos (largest-light h)) (s : a ≡ first-row (h .n) (too-heavy L (h .n) g)) where
-    pub verdict-heavy : 0 < a → record { refusal = 8; row = a } ≡ system-verdict h (entry g) (at z)
-    verdict-heavy k = of-heavy a (large-row h (at z)) k ∙ ap (λ x. verdict-of x (large-row h (at z))) (s ∙ heavy-found L p)
-
-    module _ (M : ℤ) (b : ℕ) (q : M ≡ pos (unit h / 2)) (t : b ≡ first-row (h .n) (too-large M z)) where
-      both-found : verdict-of a b ≡ system-verdict h (entry g) (at z)
-      both-found = ap₂ verdict-of (s ∙ heavy-found L p) (t ∙ large-found M q)
-
-      pub verdict-large : a ≤ 0 → 0 < b → record { refusal = 9; row = b } ≡ system-verdict h (entry g) (at z)
-      verdict-large k m = of-large a b k m ∙ both-found
-
-      pub verdict-none : a ≤ 0 → b ≤ 0 → record { refusal = 0; row = 0 } ≡ system-verdict h (entry g) (at z)
-      verdict-none k m = of-none a b k m ∙ both-found
+  pub both-found : (L : ℤ) (a : ℕ) → L ≡ pos (largest-light h) → a ≡ first-row (h .n) (too-heavy L (h .n) g)
+      → (M : ℤ) (b : ℕ) → M ≡ pos (unit h / 2) → b ≡ first-row (h .n) (too-large M z) → verdict-of a b ≡ system-verdict h (entry g) (at z)
+  both-found L a p s M b q t = ap₂ verdict-of (s ∙ heavy-found L p) (t ∙ large-found M q)
 
 -- ---- for callers
 

@@ -15,7 +15,8 @@ ghost use Rattle.job.specs.Limits.{Limits};
 ghost use Rattle.job.specs.Rows.{first-row, largest-light, system-verdict};
 ghost use Rattle.job.specs.System.{argument, denominator, no-denominator, curve-entry, system-entry, matrix, right-side};
 ghost use Rattle.system.specs.Numbers.{Numbers, right-place};
-ghost use Rattle.system.specs.Weighing.{too-heavy, too-large};
+ghost use Rattle.system.specs.Verdict.{verdict-of};
+ghost use Rattle.system.specs.Weighing.{too-heavy, too-large, SmallEntries};
 use job::Header;
 use job::Verdict;
 
@@ -179,6 +180,30 @@ fn first_heavy(g: &[i64; 256], n: usize, limit: i64) -> usize
     heavy
 }
 
+// The same of a matrix whose entries are small, as those that a frame makes are. A row is weighed whole, so that the machine takes several entries at
+// once: no row uses up the room that it starts with.
+fn first_heavy_small(g: &[i64; 256], n: usize, limit: i64) -> usize
+    requires { ⌜ (n ≤ 16) × (pos 0 ≤ℤ limit) × SmallEntries n (now g) ⌝ }
+    ensures { λ r. ⌜ r ≡ first-row n (too-heavy limit n (now (g .entry))) ⌝ }
+{
+    let mut heavy: usize = 0;
+    let mut i: usize = 0;
+    'rows: while i < n {
+        let mut left: i64 = 140737488355328;
+        let mut j: usize = 0;
+        while j < n {
+            left = room_after(left, g[16 * i + j]);
+            j += 1;
+        }
+        if limit < 140737488355328 - left {
+            heavy = i + 1;
+            break 'rows;
+        }
+        i += 1;
+    }
+    heavy
+}
+
 // Whether the magnitude of e is above the bound, for any i64.
 fn above(e: i64, bound: i64) -> bool
     requires { ⌜ pos 0 ≤ℤ bound ⌝ }
@@ -202,20 +227,16 @@ fn first_large(z: &[i64; 16], n: usize, half: i64) -> usize
     0
 }
 
-// Refusals 8 and 9, with the row that is given: all weights are looked at before any right side.
-pub fn verdict<'a>(g: &'a [i64; 256], z: &'a [i64; 16], h: Header) -> Verdict
-    requires { ⌜ Limits h ⌝ }
-    ensures { λ r. ⌜ r ≡ system-verdict h (entry (now (g .entry))) (at (now (z .entry))) ⌝ }
+// Refusals 8 and 9, with the row that is given, from the first heavy row and the first large right side: all weights come before any right side.
+fn verdict_of(heavy: usize, large: usize) -> Verdict
+    ensures { λ r. ⌜ r ≡ verdict-of heavy large ⌝ }
 {
-    let n = h.n;
-    let heavy = first_heavy(g, n, largest_light(h));
     if 0 < heavy {
         return Verdict {
             refusal: 8,
             row: heavy,
         };
     }
-    let large = first_large(z, n, half_unit(h.f));
     if 0 < large {
         return Verdict {
             refusal: 9,
@@ -223,4 +244,26 @@ pub fn verdict<'a>(g: &'a [i64; 256], z: &'a [i64; 16], h: Header) -> Verdict
         };
     }
     Verdict { refusal: 0, row: 0 }
+}
+
+// Refusals 8 and 9 of any matrix and right sides.
+pub fn verdict<'a>(g: &'a [i64; 256], z: &'a [i64; 16], h: Header) -> Verdict
+    requires { ⌜ Limits h ⌝ }
+    ensures { λ r. ⌜ r ≡ system-verdict h (entry (now (g .entry))) (at (now (z .entry))) ⌝ }
+{
+    let n = h.n;
+    let heavy = first_heavy(g, n, largest_light(h));
+    let large = first_large(z, n, half_unit(h.f));
+    verdict_of(heavy, large)
+}
+
+// Refusals 8 and 9 of a matrix whose entries are small.
+pub fn verdict_small<'a>(g: &'a [i64; 256], z: &'a [i64; 16], h: Header) -> Verdict
+    requires { ⌜ Limits h × SmallEntries (h .n) (now g) ⌝ }
+    ensures { λ r. ⌜ r ≡ system-verdict h (entry (now (g .entry))) (at (now (z .entry))) ⌝ }
+{
+    let n = h.n;
+    let heavy = first_heavy_small(g, n, largest_light(h));
+    let large = first_large(z, n, half_unit(h.f));
+    verdict_of(heavy, large)
 }

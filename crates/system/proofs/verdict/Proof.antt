@@ -1,8 +1,7 @@
--- From the two searches, by which of them found a row.
+-- From the two searches.
 use mathlib.Core.Path.{_≡_, _∙_}
 use Prim.Native.Nat.{_/_}
 use native.Mathlib.Omega.{arith}
-use borrow.Author.Needs.{needs}
 use lib.IntN.{pos}
 use mir.Syntax.{w64}
 use mir.Val.{toZ, ofZ}
@@ -10,7 +9,8 @@ use mir.Facts.{toZ-ofZ}
 use Rattle.integers.specs.Order.{zarith}
 use Rattle.job.specs.Header.{unit}
 use Rattle.job.specs.Rows.{largest-light}
-use Rattle.system.specs.Verdict.{verdict-heavy, verdict-large, verdict-none}
+use Rattle.system.specs.Verdict.{both-found}
+use borrow.Author.Needs.{needs}
 use Rattle.system.proofs.verdict.Statement.{statement}
 use Rattle.system.proofs.verdict.Tie as tie
 
@@ -18,7 +18,7 @@ use Rattle.system.proofs.verdict.Tie as tie
 limit-is : (c : tie.After-largest-light) → toZ w64 (ofZ w64 (c .largest-light .result)) ≡ pos (largest-light (c .before .args .h))
 limit-is c = toZ-ofZ {w = w64} (record { sfits = c .largest-light .ok }) ∙ c .largest-light .ensures
 
-half-is : (c : tie.After-half-unit) → toZ w64 (ofZ w64 (c .half-unit .result)) ≡ pos (unit (c .before .before .before .before .args .h) / 2)
+half-is : (c : tie.After-half-unit) → toZ w64 (ofZ w64 (c .half-unit .result)) ≡ pos (unit (c .before .before .before .args .h) / 2)
 half-is c = toZ-ofZ {w = w64} (record { sfits = c .half-unit .ok }) ∙ c .half-unit .ensures
 
 largest-light-requires : tie.Need-largest-light-requires
@@ -27,28 +27,22 @@ largest-light-requires c κs = search needs
 first-heavy-requires : tie.Need-first-heavy-requires
 first-heavy-requires c κs = (omega (arith, c .before .pre .order-most), omega (zarith, limit-is c))
 
-returns : tie.Need-returns
-returns c =
-    let st = c .before .before .before in
-    verdict-heavy (st .args .h) (st .pre) (st .args .g .now) (st .args .z .now) _ (c .before .first-heavy .result) (limit-is (c .before .before)) (c .before .first-heavy .ensures) (c .if1 .taken)
-
 half-unit-requires : tie.Need-half-unit-requires
 half-unit-requires c κs = search needs
 
 first-large-requires : tie.Need-first-large-requires
-first-large-requires c κs = (c .before .before .before .before .pre .order-most, omega (zarith, half-is c))
+first-large-requires c κs = (c .before .before .before .pre .order-most, omega (zarith, half-is c))
 
-returns-2 : tie.Need-returns-2
-returns-2 c =
-    let st = c .before .before .before .before .before .before in
-    verdict-large (st .args .h) (st .pre) (st .args .g .now) (st .args .z .now) _ _ (limit-is (c .before .before .before .before .before)) (c .before .before .before .before .first-heavy .ensures)
-    _ (c .before .first-large .result) (half-is (c .before .before)) (c .before .first-large .ensures) (omega arith) (c .if2 .taken)
+verdict-of-requires : tie.Need-verdict-of-requires
+verdict-of-requires c κs = search needs
 
-returns-3 : tie.Need-returns-3
-returns-3 c =
-    let st = c .before .before .before .before .before .before in
-    verdict-none (st .args .h) (st .pre) (st .args .g .now) (st .args .z .now) _ _ (limit-is (c .before .before .before .before .before)) (c .before .before .before .before .first-heavy .ensures)
-    _ (c .before .first-large .result) (half-is (c .before .before)) (c .before .first-large .ensures) (omega arith) (omega arith)
+returns : tie.Need-returns
+returns c =
+    let b = c .before in
+    let a = b .before .before in
+    let st = a .before .before in
+    c .verdict-of .ensures
+    ∙ both-found (st .args .h) (st .pre) (st .args .g .now) (st .args .z .now) _ _ (limit-is (a .before)) (a .first-heavy .ensures) _ _ (half-is (b .before)) (b .first-large .ensures)
 
 pub verdict-spec : {M : Type 1} → statement M
 verdict-spec =
@@ -56,8 +50,7 @@ verdict-spec =
     (tie.spec
     largest-light-requires
     first-heavy-requires
-    returns
     half-unit-requires
     first-large-requires
-    returns-2
-    returns-3)
+    verdict-of-requires
+    returns)
