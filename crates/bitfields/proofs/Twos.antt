@@ -4,18 +4,19 @@ use mathlib.Core.Path.{_≡_, refl, sym, ap, _∙_}
 use mathlib.Core.List.{List, [], _∷_, _++_, map, map-append}
 use mathlib.Core.Bool.{true, false}
 use mathlib.Core.Logic.{_⊎_, inl, inr, ⊎-elim}
-use Prim.Native.Nat.{ℕ, zero, suc, _+_, _-_, _*_, _/_, _^_, _<_, _≤_, min}
+use Prim.Native.Nat.{ℕ, zero, suc, _+_, _-_, _*_, _%_, _^_, _<_, _≤_, min}
 use native.Mathlib.Decide.{decLt}
-use native.Mathlib.Nat.{div-lt-iff-lt-mul, mul-le-mul-right, div-eq-of-lt, div-eq-of-lt-le, lt-of-lt-of-le, two-pow-succ, zero-add}
+use native.Mathlib.Nat.{lt-of-lt-of-le, mod-eq-of-lt, mod-lt, two-pow-succ, zero-add}
 use native.Mathlib.Omega.{arith}
 use mir.Facts.{toZ-ofZ}
 use mir.Syntax.{w64}
 use mir.Val.{SFits, toZ, ofZ}
 use borrow.Author.Needs.{sfits-of}
 use borrow.Author.Tests.{le-ltb, lt-ltb, ltb-true}
-use lib.IntN.{ℤ, pos, negsuc, _+ℤ_, _-ℤ_, natAbs, +ℤ-idr}
+use lib.IntN.{ℤ, pos, negsuc, _-ℤ_, natAbs, +ℤ-idr}
 use lib.ListN.{length, take, getD, replicate, length-map, length-take, List·getD-map}
 use lib.Pow.{pow-mono, pow-pos}
+use lib.Pow as Pow
 use lib.Seq.{getD-take}
 use lib.Signed.{mag, ltZ, nonNeg}
 use Rattle.bitfields.specs.Layout.{Field, Fit, none, more, each, Bytes, bits, write, field, fields, run}
@@ -42,22 +43,32 @@ pub decode-high : (w x : ℕ) → 2 ^ (w - 1) ≤ x → decode w x ≡ negsuc (2
 unfolding decode
 decode-high w x h = rw (le-ltb x (2 ^ (w - 1)) h)
 
--- the first bit, 0 or 1, counts for -(2 ^ w)
-pub decode-first : (w x : ℕ) → 0 < w → x < 2 ^ w → pos x -ℤ pos (x / 2 ^ (w - 1) * 2 ^ w) ≡ decode w x
-decode-first w x p h = ⊎-elim low high (lt-or-le x (2 ^ (w - 1)))
+-- a difference that is negative, and one that is not
+below : (a b : ℕ) → a < b → pos a -ℤ pos b ≡ negsuc (b - suc a)
+below a zero h = absurd (omega arith)
+below a (suc m) h = rw (lt-ltb a (suc m) h)
+
+above : (a b : ℕ) → b ≤ a → pos a -ℤ pos b ≡ pos (a - b)
+above a zero h = let e : a - 0 ≡ a = omega arith in rw e (+ℤ-idr (pos a))
+above a (suc m) h = rw (le-ltb a (suc m) h)
+
+-- x and half of 2 ^ w, taken round, less the half
+pub decode-round : (w x : ℕ) → 0 < w → x < 2 ^ w → pos ((x + 2 ^ (w - 1)) % 2 ^ w) -ℤ pos (2 ^ (w - 1)) ≡ decode w x
+decode-round w x p h = ⊎-elim low high (lt-or-le x (2 ^ (w - 1)))
   where
-    less : (x m : ℕ) → x < suc m → pos x +ℤ negsuc m ≡ negsuc (suc m - suc x)
-    less x m l = rw (lt-ltb x (suc m) l)
+    low : x < 2 ^ (w - 1) → pos ((x + 2 ^ (w - 1)) % 2 ^ w) -ℤ pos (2 ^ (w - 1)) ≡ decode w x
+    low l =
+        let e : (x + 2 ^ (w - 1)) % 2 ^ w ≡ x + 2 ^ (w - 1) = mod-eq-of-lt (omega (arith, halves w p)) in
+        let d : x + 2 ^ (w - 1) - 2 ^ (w - 1) ≡ x = omega arith in
+        rw (e, above (x + 2 ^ (w - 1)) (2 ^ (w - 1)) (omega arith), d) (sym (decode-low w x l))
 
-    low : x < 2 ^ (w - 1) → pos x -ℤ pos (x / 2 ^ (w - 1) * 2 ^ w) ≡ decode w x
-    low l = let e : 0 * 2 ^ w ≡ 0 = omega arith in rw (div-eq-of-lt l, e, +ℤ-idr (pos x)) (sym (decode-low w x l))
-
-    high : 2 ^ (w - 1) ≤ x → pos x -ℤ pos (x / 2 ^ (w - 1) * 2 ^ w) ≡ decode w x
+    high : 2 ^ (w - 1) ≤ x → pos ((x + 2 ^ (w - 1)) % 2 ^ w) -ℤ pos (2 ^ (w - 1)) ≡ decode w x
     high l =
-        let o : x / 2 ^ (w - 1) ≡ 1 = div-eq-of-lt-le (2 ^ (w - 1)) (omega arith) (omega (arith, halves w p)) in
-        let m : 2 ^ w ≡ suc (2 ^ w - 1) = omega arith in
-        let e : 1 * 2 ^ w ≡ 2 ^ w = omega arith in
-        rw (o, e, decode-high w x l, m) (less x (2 ^ w - 1) (omega arith))
+        let y = x - 2 ^ (w - 1) in
+        let o : y < 2 ^ w = omega arith in
+        let e : x + 2 ^ (w - 1) ≡ 1 * 2 ^ w + y = omega (arith, halves w p) in
+        let d : 2 ^ (w - 1) - suc y ≡ 2 ^ w - suc x = omega (arith, halves w p) in
+        rw (e, Pow.low 1 w o, below y (2 ^ (w - 1)) (omega (arith, halves w p)), d) (sym (decode-high w x l))
 
 pub decode-encode : {w : ℕ} {z : ℤ} → 0 < w → Fits w z → decode w (encode w z) ≡ z
 unfolding encode
@@ -207,22 +218,26 @@ in-word l h = lt-of-lt-of-le (h .size) (pow-mono {j = 63} (omega arith))
 
 -- ---- the number that w bits stand for, as the code has it
 
-pub first-most : (w x : ℕ) → 0 < w → w ≤ 48 → x < 2 ^ w → x / 2 ^ (w - 1) * 2 ^ w < 2 ^ 63
-first-most w x p k h =
-    let b : x / 2 ^ (w - 1) < 2 = div-lt-iff-lt-mul {k = 2 ^ (w - 1)} {x = x} {y = 2} (pow-pos (w - 1)) .1 (omega (arith, halves w p)) in
-    let m : x / 2 ^ (w - 1) * 2 ^ w ≤ 1 * 2 ^ w = mul-le-mul-right (2 ^ w) (omega arith) in
-    omega (arith, pow-mono {i = w} {j = 48} k)
+module _ (w x : ℕ) (p : 0 < w) (k : w ≤ 48) (h : x < 2 ^ w) where
+  pub half-small : 2 ^ (w - 1) < 2 ^ 63
+  half-small = omega (arith, pow-mono {i = w - 1} {j = 48} (omega arith))
 
-module _ (w x : ℕ) (a b : ℤ) (p : 0 < w) (k : w ≤ 48) (h : x < 2 ^ w) (ea : a ≡ pos x) (eb : b ≡ pos (x / 2 ^ (w - 1) * 2 ^ w)) where
-  difference-is : toZ w64 (ofZ w64 a) -ℤ toZ w64 (ofZ w64 b) ≡ decode w x
-  difference-is =
-      rw (ea, eb, plain (pos x) (omega (arith, pow-mono {i = w} {j = 48} k)), plain (pos (x / 2 ^ (w - 1) * 2 ^ w)) (first-most w x p k h)) (decode-first w x p h)
+  pub round-sum : x + 2 ^ (w - 1) < 2 ^ 63
+  round-sum = omega (arith, halves w p, pow-mono {i = w} {j = 48} k)
+
+  pub round-small : (x + 2 ^ (w - 1)) % 2 ^ w < 2 ^ 63
+  round-small = omega (arith, mod-lt (x + 2 ^ (w - 1)) (pow-pos w), pow-mono {i = w} {j = 48} k)
 
   decode-word : mag (decode w x) < 2 ^ 63
   decode-word = in-word k (decode-fits w x p h)
 
-  pub difference-fits : SFits w64 (toZ w64 (ofZ w64 a) -ℤ toZ w64 (ofZ w64 b))
-  difference-fits = rw difference-is (sfits-of decode-word)
+  module _ (a b : ℤ) (ea : a ≡ pos ((x + 2 ^ (w - 1)) % 2 ^ w)) (eb : b ≡ pos (2 ^ (w - 1))) where
+    difference-is : toZ w64 (ofZ w64 a) -ℤ toZ w64 (ofZ w64 b) ≡ decode w x
+    difference-is =
+        rw (ea, eb, plain (pos ((x + 2 ^ (w - 1)) % 2 ^ w)) round-small, plain (pos (2 ^ (w - 1))) half-small) (decode-round w x p h)
 
-  pub difference-read : toZ w64 (ofZ w64 (toZ w64 (ofZ w64 a) -ℤ toZ w64 (ofZ w64 b))) ≡ decode w x
-  difference-read = rw difference-is (plain (decode w x) decode-word)
+    pub difference-fits : SFits w64 (toZ w64 (ofZ w64 a) -ℤ toZ w64 (ofZ w64 b))
+    difference-fits = rw difference-is (sfits-of decode-word)
+
+    pub difference-read : toZ w64 (ofZ w64 (toZ w64 (ofZ w64 a) -ℤ toZ w64 (ofZ w64 b))) ≡ decode w x
+    difference-read = rw difference-is (plain (decode w x) decode-word)

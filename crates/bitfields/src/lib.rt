@@ -96,6 +96,22 @@ pub fn write_bytes(s: &mut [u8], at: usize, n: usize, x: u64)
     }
 }
 
+// The same. The counts that are most frequent are told one by one: for a known count the compiler makes whole words of the bytes.
+fn put_bytes(s: &mut [u8], at: usize, n: usize, x: u64)
+    requires { ⌜ (at + n ≤ length (now s)) × (n ≤ 8) ⌝ }
+    ensures { λ _. ⌜ now (s .exit) ≡ take at (now (s .entry)) ++ octets n x ++ drop (at + n) (now (s .entry)) ⌝ }
+{
+    if n == 4 {
+        write_bytes(s, at, 4, x);
+        return;
+    }
+    if n == 6 {
+        write_bytes(s, at, 6, x);
+        return;
+    }
+    write_bytes(s, at, n, x);
+}
+
 // Puts the w bits of v at the bit `at`: the bits before stay, zeros fill the last byte, and the bytes past it stay.
 pub fn write_field(s: &mut [u8], at: usize, w: usize, v: u64)
     requires { ⌜ (at + w ≤ 8 * length (now s)) × (0 < w) × (w ≤ 48) × (v < 2 ^ w) ⌝ }
@@ -106,7 +122,7 @@ pub fn write_field(s: &mut [u8], at: usize, w: usize, v: u64)
     let n = (r + w + 7) / 8;
     let kept = wide(s[k]) >> ((8 - r) as u64);
     let x = (kept * pow2(w) + v) * pow2(8 * n - (r + w));
-    write_bytes(s, k, n, x);
+    put_bytes(s, k, n, x);
 }
 
 // A word with no sign as one with a sign, and back.
@@ -150,12 +166,14 @@ pub fn fits(z: i64, w: usize) -> bool
     magnitude(z) < pow2(w - 1)
 }
 
-// The number that the w bits of x stand for: x, less 2 ^ w where its first bit is set. There is no branch, since signs cannot be foreseen.
+// The number that the w bits of x stand for: x, less 2 ^ w where its first bit is set. That is x and half of 2 ^ w, taken round, less the half:
+// there is no branch, since signs cannot be foreseen.
 pub fn to_signed(x: u64, w: usize) -> i64
     requires { ⌜ (0 < w) × (w ≤ 48) × (x < 2 ^ w) ⌝ }
     ensures { λ r. ⌜ r ≡ decode w x ⌝ }
 {
-    signed(x) - signed(x / pow2(w - 1) * pow2(w))
+    let half = pow2(w - 1);
+    signed((x + half) % pow2(w)) - signed(half)
 }
 
 // The w bits that stand for z.

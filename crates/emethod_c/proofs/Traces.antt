@@ -1,14 +1,14 @@
 -- What reading a trace and writing its record again come to, over the variables of the code.
 use mathlib.Core.Path.{_≡_, refl, sym, ap, _∙_}
 use mathlib.Core.List.{List, _++_}
-use Prim.Native.Nat.{ℕ, zero, suc, _+_, _*_, _<_, _≤_}
+use Prim.Native.Nat.{ℕ, zero, suc, _+_, _*_, _<_, _≤_, min}
 use native.Mathlib.Nat.{mul-le-mul}
 use native.Mathlib.Omega.{arith}
 use borrow.Author.Tests.{ne-eqb, eq-eqb, lt-ltb, le-ltb}
 use lib.IntN.{ℤ, pos}
 use lib.ListN.{length, getD, set, drop}
 use lib.Seq.{sets, sets-eq, length-sets}
-use Rattle.integers.specs.Flat.{list-from}
+use Rattle.integers.specs.Flat.{at, list-from}
 use Rattle.job.specs.Limits.{Limits, digit-small, steps-small}
 use Rattle.job.specs.declared.Header.{Header}
 use Rattle.trace.specs.Trace.{digit-list, trace-refusal, trace-record, read-answer, writer-refusal, write-answer, write-buffer}
@@ -121,6 +121,21 @@ module _ (h : Header) (k : ℕ) where
 -- the list keeps its length
 pub same-sets : (w out : List ℤ) (i : ℕ) (vs : List ℤ) → out ≡ sets w i vs → length out ≡ length w
 same-sets w out i vs e = ap length e ∙ length-sets w i vs
+
+-- a turn: a digit of the first n that is put, and one past them that is not
+module _ (ds w out left : List ℤ) (i to x n : ℕ) where
+  pub digit-put : (z : ℤ) → x < n → out ≡ sets w to (digits-from ds i (min x n)) → left ≡ set out (to + x) z → z ≡ at ds (i + x)
+      → left ≡ sets w to (digits-from ds i (min (x + 1) n))
+  digit-put z l e f g =
+      let a : min x n ≡ x = omega arith in
+      let b : min (x + 1) n ≡ x + 1 = omega arith in
+      f ∙ rw b (store-turn w out to x (λ y. at ds (i + y)) z (rw a at e) g)
+
+  pub digit-none : n ≤ x → out ≡ sets w to (digits-from ds i (min x n)) → left ≡ out → left ≡ sets w to (digits-from ds i (min (x + 1) n))
+  digit-none l e f =
+      let a : min x n ≡ n = omega arith in
+      let b : min (x + 1) n ≡ n = omega arith in
+      f ∙ rw b (rw a at e)
 
 -- a step that is put
 pub words-turn : (ds w out left : List ℤ) (n j to : ℕ) → 0 < n → to ≡ 7 + n * j → out ≡ sets w 7 (digit-list n j ds) → left ≡ sets out to (digits-from ds (16 * j) n)

@@ -56,8 +56,7 @@ pub extern "C" fn em_check_frame(frame: &[u8]) -> u64
     if 0 < l.refusal {
         return answer(l.refusal, l.row, 0);
     }
-    let s = l.state;
-    answer(0, 0, job::count(s.header))
+    answer(0, 0, job::count(l.state.header))
 }
 
 // Loads a frame, advances it by the budget, and writes a reading for each row.
@@ -119,8 +118,7 @@ pub extern "C" fn em_probe_load(frame: &[u8], row: usize, column: usize) -> i64
     if 0 < l.refusal {
         return 0;
     }
-    let s = l.state;
-    probe(&s.g, &s.z, row, column)
+    probe(&l.state.g, &l.state.z, row, column)
 }
 
 // Loads a frame, advances it by the budget, and writes its trace. A budget that no step is made with leaves the state as it is, and its trace is written.
@@ -195,14 +193,17 @@ fn put_header(h: Header, k: usize, words: &mut [i64])
     }
 }
 
-// Puts n digits, from the place `from` on, into the list from the word `to` on; the other words stay.
+// Puts n digits, from the place `from` on, into the list from the word `to` on; the other words stay. The loop has a fixed end and asks
+// for its row in each turn, so that words are put one by one: several at once take longer here.
 fn put_step(d: &[i8; 960], from: usize, n: usize, words: &mut [i64], to: usize)
-    requires { ⌜ (from + n ≤ 960) × (to + n ≤ length (now words)) × (to ≤ 967) ⌝ }
+    requires { ⌜ (n ≤ 16) × (from + n ≤ 960) × (to + n ≤ length (now words)) × (to ≤ 967) ⌝ }
     ensures { λ _. ⌜ now (words .exit) ≡ sets (now (words .entry)) to (digits-from (now (d .entry)) from n) ⌝ }
 {
     let mut x: usize = 0;
-    while x < n {
-        words[to + x] = integers::widen(d[from + x]);
+    while x < 16 {
+        if x < n {
+            words[to + x] = integers::widen(d[from + x]);
+        }
         x += 1;
     }
 }
@@ -233,13 +234,12 @@ pub extern "C" fn em_read_trace(trace: &[u8], words: &mut [i64]) -> u64
     if 0 < c.refusal {
         return answer(c.refusal, 0, 0);
     }
-    let t = c.trace;
-    let h = t.header;
-    let k = t.k;
+    let h = c.trace.header;
+    let k = c.trace.k;
     let size = 7 + h.n * k;
     if words.len() < size {
         return answer(23, 0, 0); // too little room
     }
-    put_words(h, k, &t.digits, words);
+    put_words(h, k, &c.trace.digits, words);
     answer(0, 0, size)
 }

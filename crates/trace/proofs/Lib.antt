@@ -1,4 +1,5 @@
 pub mod Digit
+pub mod Bytes
 pub mod Steps
 pub mod Reading
 pub mod Writing

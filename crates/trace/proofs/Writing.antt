@@ -2,15 +2,18 @@
 use mathlib.Core.Path.{_≡_, refl, sym, ap, _∙_}
 use mathlib.Core.Bool.{Bool, true, false}
 use mathlib.Core.List.{List, [], _∷_, _++_, map, map-append, append-assoc, append-nil}
-use Prim.Native.Nat.{ℕ, zero, suc, _+_, _*_, _-_, _^_, _<_, _≤_}
+use mathlib.Core.Logic.{inl}
+use Prim.Native.Nat.{ℕ, zero, suc, _+_, _*_, _/_, _%_, _^_, _<_, _≤_}
+use native.Mathlib.Nat.{mul-le-mul, mul-suc, mul-zero}
 use native.Mathlib.Numerals.{add-one}
 use native.Mathlib.Omega.{arith}
 use borrow.Author.Tests.{le-ltb, lt-ltb, ne-eqb}
 use lib.IntN.{ℤ}
 use lib.ListN.{length, length-map}
-use Rattle.integers.specs.Flat.{at, list-from, length-list-from}
+use lib.Seq.{length-sets, sets}
+use Rattle.integers.specs.Flat.{at, list-from, length-list-from, getD-list-from}
 use Rattle.bitfields.specs.Layout.{Field, bits, number, Fit, more, Bytes, put, written}
-use Rattle.bitfields.specs.Twos.{encode}
+use Rattle.bitfields.specs.Twos.{encode, AllFit}
 use Rattle.bitfields.proofs.Spelling.{bits-each, bits-append, bits-one, fit-append, number-append, number-lt, number-one}
 use Rattle.bitfields.proofs.Writing.{put-one, put-written, put-zero}
 use Rattle.bitfields.proofs.Twos.{fit-encodes}
@@ -21,9 +24,9 @@ use Rattle.job.specs.declared.Header.{Header}
 use Rattle.frame.specs.Frame.{header-fields}
 use Rattle.frame.specs.RoundTrip.{fit-header}
 use Rattle.trace.specs.Trace.{digit-list, trace-fields, trace-length, too-many-steps, digit-beyond, buffer-too-short, writer-checks, writer-refusal, write-answer, write-buffer}
-use Rattle.trace.specs.Groups.{digits-from, digit-fields, FiveBits, StepsFit, Appended}
+use Rattle.trace.specs.Groups.{digits-from, digit-fields, FiveBits, Appended}
 use Rattle.trace.specs.Part.{record-of}
-use Rattle.trace.specs.Digits.{digit-list-more, digit-list-none, length-digit-list, list-fits}
+use Rattle.trace.specs.Digits.{at-sets, at-sets-other, digit-list-more, digit-list-none, list-from-ext}
 use Rattle.trace.specs.Valid.{Valid, taken-is}
 use Rattle.trace.specs.declared.Record.{Record}
 use Rattle.trace.specs.declared.TraceWritten.{TraceWritten}
@@ -66,54 +69,88 @@ digits-append ds i a (suc b) =
     let f : i + (a + b) ≡ i + a + b = omega arith in
     rw (e, d, digits-more ds i (a + b), digits-more ds (i + a) b, digits-append ds i a b, f) (append-assoc (digits-from ds i a) (digits-from ds (i + a) b) _)
 
--- ---- the digits of one step
-
-pub fits-front : {ds : List ℤ} {i n : ℕ} → FiveBits ds i n → (m : ℕ) → m ≤ n → FiveBits ds i m
-fits-front a m l = record { each-fits = λ x h. a .each-fits x (omega arith) }
-
-pub fits-back : {ds : List ℤ} {i n : ℕ} → FiveBits ds i n → (m : ℕ) → FiveBits ds (i + m) (n - m)
-fits-back {ds} {i} {n} a m = record { each-fits = λ x h. let e : i + m + x ≡ i + (m + x) = omega arith in rw e (a .each-fits (m + x) (omega arith)) }
-
 bits-from : (ds : List ℤ) (i n : ℕ) → bits (digit-fields (digits-from ds i n)) ≡ 5 * n
 bits-from ds i n = bits-digits (digits-from ds i n) ∙ rw (length-list-from 0 n (λ x. at ds (i + x)))
 
--- of at most eight rows, and of more
-pub step-put : (ds : List ℤ) (a b : List ℕ) (p n i v : ℕ) → v ≡ number (digit-fields (digits-from ds i n)) → b ≡ put a p ((5 * n, v) ∷ []) → Appended p (digit-fields (digits-from ds i n)) a b
-step-put ds a b p n i v e d = appended-one p (digit-fields (digits-from ds i n)) a b (5 * n) v (sym (bits-from ds i n)) e d
+-- ---- the digits of step after step, one after the other
 
-pub steps-put : (ds : List ℤ) (a b c : List ℕ) (p n i v u : ℕ) → FiveBits ds i n → 8 < n
-    → v ≡ number (digit-fields (digits-from ds i 8)) → b ≡ put a p ((40, v) ∷ [])
-    → u ≡ number (digit-fields (digits-from ds (i + 8) (n - 8))) → c ≡ put b (p + 40) ((5 * (n - 8), u) ∷ [])
-    → Appended p (digit-fields (digits-from ds i n)) a c
-steps-put ds a b c p n i v u h l e d f g =
-    let m : n ≡ 8 + (n - 8) = omega arith in
-    let s : digit-fields (digits-from ds i n) ≡ digit-fields (digits-from ds i 8) ++ digit-fields (digits-from ds (i + 8) (n - 8)) =
-    ap (λ (x : ℕ). digit-fields (digits-from ds i x)) m ∙ rw (digits-append ds i 8 (n - 8)) (digit-fields-append (digits-from ds i 8) (digits-from ds (i + 8) (n - 8))) in
-    rw s
-    (appended-more (fit-encodes {w = 5} (omega arith) (front-fits (fits-front h 8 (omega arith)) 8 (omega arith)))
-    (step-put ds a b p 8 i v e d)
-    (rw (bits-from ds i 8) (step-put ds b c (p + 40) (n - 8) (i + 8) u f g)))
+digits-same : (ds es : List ℤ) (i j c : ℕ) → ((x : ℕ) → x < c → at ds (i + x) ≡ at es (j + x)) → digits-from ds i c ≡ digits-from es j c
+digits-same ds es i j c h =
+    list-from-ext 0 c (λ x. at ds (i + x)) (digits-from es j c) (length-list-from 0 c (λ x. at es (j + x)))
+    (λ t l. let o : 0 + t ≡ t = omega arith in rw o (h t l ∙ sym (getD-list-from 0 c (λ x. at es (j + x)) t l ∙ rw o)))
 
--- ---- step after step
+pub pull-start : (n : ℕ) (ds es : List ℤ) → digits-from es 0 (n * 0) ≡ digit-list n 0 ds
+pull-start n ds es = rw (digit-list-none n ds, mul-zero) (digits-none es 0)
 
-pub step-fits : {n k : ℕ} {ds : List ℤ} → StepsFit n k ds → (j : ℕ) → j < k → FiveBits ds (16 * j) n
-step-fits a j l = record { each-fits = λ x h. a .step-fits j x l h }
+pub pull-room : (n j : ℕ) → n ≤ 16 → j < 60 → n * j + 16 ≤ 960
+pull-room n j a l = omega (arith, mul-le-mul {n₁ = n} {m₁ = j} {n₂ = 16} {m₂ = 59} a (omega arith))
 
-front-steps : {n k : ℕ} {ds : List ℤ} → StepsFit n k ds → (j : ℕ) → j ≤ k → StepsFit n j ds
-front-steps a j l = record { step-fits = λ t i h m. a .step-fits t i (omega arith) m }
+pub pull-length : (e f : List ℤ) (to : ℕ) (vs : List ℤ) → f ≡ sets e to vs → length e ≡ 960 → length f ≡ 960
+pull-length e f to vs q l = ap length q ∙ length-sets e to vs ∙ l
 
-pub digits-start : (n : ℕ) (ds : List ℤ) (a : List ℕ) → Appended 30 (digit-fields (digit-list n 0 ds)) a a
-digits-start n ds a = rw (digit-list-none n ds) (appended-none 30 a)
+-- a turn: one more step's, of which n stay
+pub pull-turn : (ds e f : List ℤ) (n j to : ℕ) → 0 < n → n ≤ 16 → n * j + 16 ≤ length e → to ≡ n * j
+    → digits-from e 0 (n * j) ≡ digit-list n j ds → f ≡ sets e to (digits-from ds (16 * j) 16) → digits-from f 0 (n * (j + 1)) ≡ digit-list n (j + 1) ds
+pull-turn ds e f n j to p a r t g q =
+    let s : n * (j + 1) ≡ n * j + n = omega (arith, mul-suc n j) in
+    let o : 0 + n * j ≡ n * j = omega arith in
+    let vs = digits-from ds (16 * j) 16 in
+    let m : length vs ≡ 16 = length-list-from 0 16 (λ x. at ds (16 * j + x)) in
+    let kept : digits-from f 0 (n * j) ≡ digits-from e 0 (n * j) = digits-same f e 0 0 (n * j) (λ x l. rw (q, t) (at-sets-other e (n * j) vs (0 + x) (inl (omega arith)))) in
+    let new : digits-from f (n * j) n ≡ digits-from ds (16 * j) n =
+    digits-same f ds (n * j) (16 * j) n
+    (λ x l. let z : 0 + x ≡ x = omega arith in
+    rw (q, t) (at-sets e (n * j) vs x (omega arith) (omega arith) ∙ getD-list-from 0 16 (λ x. at ds (16 * j + x)) x (omega arith) ∙ rw z)) in
+    rw s (digits-append f 0 (n * j) n ∙ rw (o, kept, new, g, add-one) (sym (digit-list-more n j ds p)))
 
--- a turn: one more step
-pub digits-turn : (ds : List ℤ) (o a b : List ℕ) (n k j p : ℕ) → StepsFit n k ds → 0 < n → j < k → p ≡ 30 + 5 * (n * j)
-    → Appended 30 (digit-fields (digit-list n j ds)) o a → Appended p (digit-fields (digits-from ds (16 * j) n)) a b
-    → Appended 30 (digit-fields (digit-list n (j + 1) ds)) o b
-digits-turn ds o a b n k j p h q l e f g =
-    let s : digit-fields (digit-list n (j + 1) ds) ≡ digit-fields (digit-list n j ds) ++ digit-fields (digits-from ds (16 * j) n) =
-    rw (add-one, digit-list-more n j ds q) (digit-fields-append (digit-list n j ds) (digits-from ds (16 * j) n)) in
-    let w : 30 + bits (digit-fields (digit-list n j ds)) ≡ p = rw (bits-digits (digit-list n j ds), length-digit-list n j ds, e) in
-    rw s (appended-more (fit-encodes {w = 5} (omega arith) (list-fits (front-steps h j (omega arith)) q)) f (rw w g))
+-- ---- a list of digits, eight at a time
+
+pub fits-inside : {ds : List ℤ} {m : ℕ} → FiveBits ds 0 m → (i c : ℕ) → i + c ≤ m → FiveBits ds i c
+fits-inside a i c l = record { each-fits = λ x h. let e : 0 + (i + x) ≡ i + x = omega arith in rw e at (a .each-fits (i + x) (omega arith)) }
+
+pub list-start : (ds : List ℤ) (a : List ℕ) → Appended 30 (digit-fields (digits-from ds 0 (8 * 0))) a a
+list-start ds a = rw (digits-none ds 0) (appended-none 30 a)
+
+-- c digits after the first m, as one field
+pub list-put : (ds : List ℤ) (o a b : List ℕ) (m c p v : ℕ) → FiveBits ds 0 m → p ≡ 30 + 5 * m → Appended 30 (digit-fields (digits-from ds 0 m)) o a
+    → v ≡ number (digit-fields (digits-from ds m c)) → b ≡ put a p ((5 * c, v) ∷ []) → Appended 30 (digit-fields (digits-from ds 0 (m + c))) o b
+list-put ds o a b m c p v h e f g d =
+    let z : 0 + m ≡ m = omega arith in
+    let s : digit-fields (digits-from ds 0 (m + c)) ≡ digit-fields (digits-from ds 0 m) ++ digit-fields (digits-from ds m c) =
+    rw (digits-append ds 0 m c, z) (digit-fields-append (digits-from ds 0 m) (digits-from ds m c)) in
+    let w : 30 + bits (digit-fields (digits-from ds 0 m)) ≡ p = rw (bits-from ds 0 m, e) in
+    let n : Appended p (digit-fields (digits-from ds m c)) a b =
+    appended-one p (digit-fields (digits-from ds m c)) a b (5 * c) v (sym (bits-from ds m c)) g d in
+    rw s (appended-more (fit-encodes {w = 5} (omega arith) (front-fits h m (omega arith))) f (rw w n))
+
+-- a turn: eight more
+pub eights-turn : (ds : List ℤ) (o a b : List ℕ) (g i q v : ℕ) → FiveBits ds 0 (8 * g) → i < g → q ≡ 3 + 5 * i → Appended 30 (digit-fields (digits-from ds 0 (8 * i))) o a
+    → v ≡ number (digit-fields (digits-from ds (8 * i) 8)) → b ≡ put a (8 * q + 6) ((40, v) ∷ []) → Appended 30 (digit-fields (digits-from ds 0 (8 * (i + 1)))) o b
+eights-turn ds o a b g i q v h l e f c d =
+    let s : 8 * (i + 1) ≡ 8 * i + 8 = omega arith in
+    rw s (list-put ds o a b (8 * i) 8 (8 * q + 6) v (fits-inside h 0 (8 * i) (omega arith)) (omega arith) f c d)
+
+-- what is left, and where nothing is
+pub rest-put : (ds : List ℤ) (o a b : List ℕ) (m v : ℕ) → FiveBits ds 0 m → Appended 30 (digit-fields (digits-from ds 0 (8 * (m / 8)))) o a
+    → v ≡ number (digit-fields (digits-from ds (8 * (m / 8)) (m % 8))) → b ≡ put a (30 + 40 * (m / 8)) ((5 * (m % 8), v) ∷ [])
+    → Appended 30 (digit-fields (digits-from ds 0 m)) o b
+rest-put ds o a b m v h f c d =
+    let s : 8 * (m / 8) + m % 8 ≡ m = omega arith in
+    rw s at (list-put ds o a b (8 * (m / 8)) (m % 8) (30 + 40 * (m / 8)) v (fits-inside h 0 (8 * (m / 8)) (omega arith)) (omega arith) f c d)
+
+pub rest-none : (ds : List ℤ) (o a : List ℕ) (m : ℕ) → m % 8 ≤ 0 → Appended 30 (digit-fields (digits-from ds 0 (8 * (m / 8)))) o a
+    → Appended 30 (digit-fields (digits-from ds 0 m)) o a
+rest-none ds o a m l f = let s : 8 * (m / 8) ≡ m = omega arith in rw s at f
+
+-- digits that are those of k steps
+pub list-five : (es v : List ℤ) (m : ℕ) → digits-from es 0 m ≡ v → AllFit 5 v → FiveBits es 0 m
+list-five es v m e f = record {
+  each-fits = λ x h.
+      let o : 0 + x ≡ x = omega arith in
+      let k : length v ≡ m = ap length (sym e) ∙ length-list-from 0 m (λ y. at es (0 + y)) in
+      let g : at v x ≡ at es (0 + x) = ap (λ (l : List ℤ). at l x) (sym e) ∙ getD-list-from 0 m (λ y. at es (0 + y)) x h ∙ ap (λ (y : ℕ). at es (0 + y)) o in
+      rw (← g) (f .each-fits x (omega arith));
+}
 
 -- ---- the header, the steps, and then the digits
 

@@ -112,14 +112,14 @@ entry-none n k v j i h l (inr o) = at-outside n k v (16 * j + i) (omega arith) (
 
 -- ---- numbers stored one after the other, from place i on
 
-at-sets-other : (l : List ℤ) (i : ℕ) (vs : List ℤ) (t : ℕ) → (t < i) ⊎ (i + length vs ≤ t) → at (sets l i vs) t ≡ at l t
+pub at-sets-other : (l : List ℤ) (i : ℕ) (vs : List ℤ) (t : ℕ) → (t < i) ⊎ (i + length vs ≤ t) → at (sets l i vs) t ≡ at l t
 at-sets-other l i [] t o = refl
 at-sets-other l i (v ∷ vs) t (inl h) =
     at-sets-other (set l i v) (suc i) vs t (inl (omega arith)) ∙ getD-set-other l i t v (pos 0) (λ e. omega arith)
 at-sets-other l i (v ∷ vs) t (inr h) =
     at-sets-other (set l i v) (suc i) vs t (inr (omega arith)) ∙ getD-set-other l i t v (pos 0) (λ e. omega arith)
 
-at-sets : (l : List ℤ) (i : ℕ) (vs : List ℤ) (x : ℕ) → x < length vs → i + length vs ≤ length l → at (sets l i vs) (i + x) ≡ at vs x
+pub at-sets : (l : List ℤ) (i : ℕ) (vs : List ℤ) (x : ℕ) → x < length vs → i + length vs ≤ length l → at (sets l i vs) (i + x) ≡ at vs x
 at-sets l i [] x h b = absurd (omega arith)
 at-sets l i (v ∷ vs) zero h b =
     let e : i + 0 ≡ i = omega arith in

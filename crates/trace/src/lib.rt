@@ -12,14 +12,14 @@
 // Each contract is an equality with a definition of specs/Trace.antt, and specs/Theorems.antt has
 // what follows from them: which inputs are refused by which number, and the round trips.
 ghost use mathlib.Core.Path.{_≡_};
-ghost use Prim.Native.Nat.{_+_, _*_, _<_, _≤_};
+ghost use Prim.Native.Nat.{_+_, _-_, _*_, _%_, _^_, _<_, _≤_};
 ghost use lib.ListN.{length};
 ghost use lib.Seq.{sets};
-ghost use Rattle.bitfields.specs.Layout.{number, written};
+ghost use Rattle.bitfields.specs.Layout.{field, number, written};
 ghost use Rattle.bitfields.specs.Twos.{encode, decode, Fits, numbers};
 ghost use Rattle.job.specs.Limits.{Limits};
 ghost use Rattle.job.specs.Refusal.{first-refusal};
-ghost use Rattle.trace.specs.Groups.{digits-from, digits-in, digit-fields, FiveBits, StepsFit, Appended};
+ghost use Rattle.trace.specs.Groups.{digits-from, digits-in, digit-fields, FiveBits, StepsFit, Clear, digit-byte, Bytewise, Appended};
 ghost use Rattle.trace.specs.Part.{record-of, refused-by, part-wrong-length, part-fill-bit-set, size-checks, part-answer};
 ghost use Rattle.trace.specs.Trace.{
   digit-list,
@@ -54,50 +54,66 @@ pub struct TraceWritten {
     pub length: usize,
 }
 
-// The digit that 5 bits stand for, without a branch.
+// The digit that a byte stands for, without a branch.
 fn to_digit(u: u64) -> i8
-    requires { ⌜ u < 32 ⌝ }
-    ensures { λ r. ⌜ r ≡ decode 5 u ⌝ }
+    requires { ⌜ u ≡ digit-byte (u % 32) ⌝ }
+    ensures { λ r. ⌜ r ≡ decode 5 (u % 32) ⌝ }
 {
-    ((u + 16) % 32) as i8 - 16
+    integers::narrow(integers::to_signed((u + 128) % 256) - 128)
 }
 
-// The 5 bits that stand for a digit, without a branch.
+// The last 5 bits of a number: those that stand for a digit.
 fn to_bits(z: i8) -> u64
-    requires { ⌜ Fits 5 z ⌝ }
-    ensures { λ r. ⌜ r ≡ encode 5 z ⌝ }
+    ensures { λ r. ⌜ (r < 32) × (Fits 5 z → r ≡ encode 5 z) ⌝ }
 {
-    ((z + 16) as u64 + 16) % 32
+    integers::to_unsigned(integers::widen(z) + 128) % 32
 }
 
-// Stores the c digits that v spells, from the place `at` on.
-fn spread(v: u64, c: usize, d: &mut [i8; 960], at: usize)
-    requires { ⌜ (c ≤ 8) × (at + c ≤ 960) ⌝ }
-    ensures { λ _. ⌜ now (d .exit) ≡ sets (now (d .entry)) at (digits-in c v) ⌝ }
+// Eight fields of 5 bits as eight bytes, all at once: the halves are set apart, then the quarters, then the single fields, and at last each sign is
+// drawn out over its byte.
+fn eight_bytes(u: u64) -> u64
+    requires { ⌜ u < 2 ^ 40 ⌝ }
+    ensures { λ r. ⌜ Bytewise u r ⌝ }
 {
+    let halves = u + (u >> 20) * 0xfff00000;
+    let quarters = halves + ((halves >> 10) & 0x000003ff000003ff) * 0xfc00;
+    let fields = quarters + ((quarters >> 5) & 0x001f001f001f001f) * 0xe0;
+    fields + (fields & 0x1010101010101010) * 14
+}
+
+// Stores the eight digits that u spells, from the place `at` on.
+fn spread(u: u64, d: &mut [i8; 960], at: usize)
+    requires { ⌜ (u < 2 ^ 40) × (at + 8 ≤ 960) ⌝ }
+    ensures { λ _. ⌜ now (d .exit) ≡ sets (now (d .entry)) at (digits-in 8 u) ⌝ }
+{
+    let y = eight_bytes(u);
     let mut x = 0;
-    while x < c {
-        d[at + x] = to_digit((v >> ((5 * (c - 1 - x)) as u64)) % 32);
+    while x < 8 {
+        d[at + x] = to_digit((y >> ((8 * (7 - x)) as u64)) % 256);
         x += 1;
     }
 }
 
-// Reads the digits of one step, n of them from the bit p on, and stores them from the place `at` on. Up to eight are taken at once, as one field.
+// The field of c digits at the bit p as one of eight digits, which has zeros after them.
+fn read_eight(b: &[u8], p: usize, c: usize) -> u64
+    requires { ⌜ (p + 5 * c ≤ 8 * length (now b)) × (0 < c) × (c ≤ 8) ⌝ }
+    ensures { λ r. ⌜ r ≡ field (now (b .entry)) p (5 * c) * 2 ^ (5 * (8 - c)) ⌝ }
+{
+    bitfields::read_field(b, p, 5 * c) * bitfields::pow2(5 * (8 - c))
+}
+
+// Reads the digits of one step, n of them from the bit p on, and stores them from the place `at` on, where zeros stand. Eight are always
+// stored at once: past row n they are the zeros that stand there.
 fn read_step(b: &[u8], p: usize, n: usize, d: &mut [i8; 960], at: usize)
-    requires { ⌜ (p + 5 * n ≤ 8 * length (now b)) × (0 < n) × (n ≤ 16) × (at + n ≤ 960) × (p ≤ 5000) ⌝ }
+    requires { ⌜ (p + 5 * n ≤ 8 * length (now b)) × (0 < n) × (n ≤ 16) × (at + 16 ≤ 960) × (p ≤ 5000) × Clear (now d) at 16 ⌝ }
     ensures { λ _. ⌜ now (d .exit) ≡ sets (now (d .entry)) at (numbers (now (b .entry)) p 5 n) ⌝ }
 {
     if n <= 8 {
-        spread(bitfields::read_field(b, p, 5 * n), n, d, at);
+        spread(read_eight(b, p, n), d, at);
         return;
     }
-    spread(bitfields::read_field(b, p, 40), 8, d, at);
-    spread(
-        bitfields::read_field(b, p + 40, 5 * (n - 8)),
-        n - 8,
-        d,
-        at + 8,
-    );
+    spread(bitfields::read_field(b, p, 40), d, at);
+    spread(read_eight(b, p + 40, n - 8), d, at + 8);
 }
 
 // The digits of k steps of n rows, which stand in the bits of b from bit 6 on; 0 past step k and past row n.
@@ -189,31 +205,74 @@ pub fn read_trace(s: &[u8]) -> Recorded
     read_part(&s[3..], h)
 }
 
-// The number that the c digits from the place `at` on spell.
+// The number that the c digits from the place `at` on spell. Eight are always taken, and those past them are dropped.
 fn gather(d: &[i8; 960], at: usize, c: usize) -> u64
-    requires { ⌜ (c ≤ 8) × (at + c ≤ 960) × FiveBits (now d) at c ⌝ }
+    requires { ⌜ (c ≤ 8) × (at + 8 ≤ 960) × FiveBits (now d) at c ⌝ }
     ensures { λ r. ⌜ r ≡ number (digit-fields (digits-from (now (d .entry)) at c)) ⌝ }
 {
     let mut v: u64 = 0;
     let mut x = 0;
-    while x < c {
+    while x < 8 {
         v = v * 32 + to_bits(d[at + x]);
         x += 1;
     }
-    v
+    v >> ((5 * (8 - c)) as u64)
 }
 
-// Writes the digits of one step, n of them from the place `at` on, at the bit p. Up to eight are put at once, as one field.
-fn write_step(out: &mut [u8], p: usize, d: &[i8; 960], at: usize, n: usize)
-    requires { ⌜ (p + 5 * n ≤ 8 * length (now out)) × (0 < n) × (n ≤ 16) × (at + n ≤ 960) × (p ≤ 5000) × FiveBits (now d) at n ⌝ }
-    ensures { λ _. ⌜ Appended p (digit-fields (digits-from (now (d .entry)) at n)) (now (out .entry)) (now (out .exit)) ⌝ }
+// Copies n digits, from the place i on, to the place `at` on.
+fn copy_step(from: &[i8; 960], i: usize, to: &mut [i8; 960], at: usize, n: usize)
+    requires { ⌜ (i + n ≤ 960) × (at + n ≤ 960) ⌝ }
+    ensures { λ _. ⌜ now (to .exit) ≡ sets (now (to .entry)) at (digits-from (now (from .entry)) i n) ⌝ }
 {
-    if n <= 8 {
-        bitfields::write_field(out, p, 5 * n, gather(d, at, n));
-        return;
+    let mut x = 0;
+    while x < n {
+        to[at + x] = from[i + x];
+        x += 1;
     }
-    bitfields::write_field(out, p, 40, gather(d, at, 8));
-    bitfields::write_field(out, p + 40, 5 * (n - 8), gather(d, at + 8, n - 8));
+}
+
+// The digits of k steps of n rows one after the other, from the first place on. Sixteen are copied of each step, and those past row n have the next
+// step's over them.
+fn pull(d: &[i8; 960], n: usize, k: usize) -> [i8; 960]
+    requires { ⌜ (0 < n) × (n ≤ 16) × (k ≤ 60) ⌝ }
+    ensures { λ r. ⌜ digits-from r 0 (n * k) ≡ digit-list n k (now (d .entry)) ⌝ }
+{
+    let mut e = [0i8; 960];
+    let mut to = 0;
+    let mut j = 0;
+    while j < k {
+        copy_step(d, 16 * j, &mut e, to, 16);
+        to += n;
+        j += 1;
+    }
+    e
+}
+
+// Writes g times eight digits at bit 30, each eight as one field. The fields have five bytes, so that each begins at bit 6 of a byte.
+fn write_eights(out: &mut [u8], e: &[i8; 960], g: usize)
+    requires { ⌜ (30 + 40 * g ≤ 8 * length (now out)) × (8 * g ≤ 960) × FiveBits (now e) 0 (8 * g) ⌝ }
+    ensures { λ _. ⌜ Appended 30 (digit-fields (digits-from (now (e .entry)) 0 (8 * g))) (now (out .entry)) (now (out .exit)) ⌝ }
+{
+    let mut q = 3;
+    let mut i = 0;
+    while i < g {
+        bitfields::write_field(out, 8 * q + 6, 40, gather(e, 8 * i, 8));
+        q += 5;
+        i += 1;
+    }
+}
+
+// Writes the first m digits at bit 30: as many eights as there are, and then the rest.
+fn write_list(out: &mut [u8], e: &[i8; 960], m: usize)
+    requires { ⌜ (30 + 5 * m ≤ 8 * length (now out)) × (m ≤ 960) × FiveBits (now e) 0 m ⌝ }
+    ensures { λ _. ⌜ Appended 30 (digit-fields (digits-from (now (e .entry)) 0 m)) (now (out .entry)) (now (out .exit)) ⌝ }
+{
+    let g = m / 8;
+    let c = m % 8;
+    write_eights(out, e, g);
+    if 0 < c {
+        bitfields::write_field(out, 30 + 40 * g, 5 * c, gather(e, 8 * g, c));
+    }
 }
 
 // Writes the digits of k steps of n rows at bit 30.
@@ -221,13 +280,8 @@ fn write_digits(out: &mut [u8], d: &[i8; 960], n: usize, k: usize)
     requires { ⌜ (30 + 5 * (n * k) ≤ 8 * length (now out)) × (0 < n) × (n ≤ 16) × (k ≤ 60) × StepsFit n k (now d) ⌝ }
     ensures { λ _. ⌜ Appended 30 (digit-fields (digit-list n k (now (d .entry)))) (now (out .entry)) (now (out .exit)) ⌝ }
 {
-    let mut p = 30;
-    let mut j = 0;
-    while j < k {
-        write_step(out, p, d, 16 * j, n);
-        p += 5 * n;
-        j += 1;
-    }
+    let e = pull(d, n, k);
+    write_list(out, &e, n * k);
 }
 
 // How many bytes a trace of k steps has.
@@ -288,18 +342,6 @@ pub fn write_trace(t: Record, out: &mut [u8]) -> TraceWritten
     }
 }
 
-// Copies the digits of one step, n of them from the place `at` on.
-fn copy_step(from: &[i8; 960], to: &mut [i8; 960], at: usize, n: usize)
-    requires { ⌜ at + n ≤ 960 ⌝ }
-    ensures { λ _. ⌜ now (to .exit) ≡ sets (now (to .entry)) at (digits-from (now (from .entry)) at n) ⌝ }
-{
-    let mut x = 0;
-    while x < n {
-        to[at + x] = from[at + x];
-        x += 1;
-    }
-}
-
 // The digits of the first k steps and the first n rows, and 0 elsewhere.
 fn trim(d: &[i8; 960], n: usize, k: usize) -> [i8; 960]
     requires { ⌜ (n ≤ 16) × (k ≤ 60) ⌝ }
@@ -308,7 +350,7 @@ fn trim(d: &[i8; 960], n: usize, k: usize) -> [i8; 960]
     let mut t = [0i8; 960];
     let mut j = 0;
     while j < k {
-        copy_step(d, &mut t, 16 * j, n);
+        copy_step(d, 16 * j, &mut t, 16 * j, n);
         j += 1;
     }
     t

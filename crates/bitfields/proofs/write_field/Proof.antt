@@ -62,8 +62,8 @@ mul-x-2 c =
     rw (c .pow22 .ensures, c .before .pow2 .ensures, c .before .before .wide .ensures)
     (omega (arith, shifted-fits (a .at) (a .w) (bytes b) (b .before .pre)))
 
-write-bytes-requires : tie.Need-write-bytes-requires
-write-bytes-requires c κs = search needs
+put-bytes-requires : tie.Need-put-bytes-requires
+put-bytes-requires c κs = search needs
 
 same-length : tie.Need-same-length
 same-length c = search needs
@@ -73,7 +73,7 @@ returns c =
     let d = c .before .before .before .before in
     let b = d .before .before .before .before in
     let a = b .before .args in
-    rw (c .before .before .write-bytes .ensures, d .pow22 .ensures, d .before .pow2 .ensures, d .before .before .wide .ensures)
+    rw (c .before .before .put-bytes .ensures, d .pow22 .ensures, d .before .pow2 .ensures, d .before .before .wide .ensures)
     (put-field (a .at) (a .w) (bytes b) (b .before .pre))
 
 pub write-field-spec : {M : Type 1} → statement M
@@ -94,6 +94,6 @@ write-field-spec =
     sub-pow2
     pow2-requires-2
     mul-x-2
-    write-bytes-requires
+    put-bytes-requires
     same-length
     returns)

@@ -3,30 +3,22 @@ use Rattle.bitfields.proofs.Twos.{plain}
 use Rattle.emethod_c.proofs.Loads.{probe-refused, probe-accepted}
 use Rattle.emethod_c.proofs.em_probe_load.Statement.{statement}
 use Rattle.emethod_c.proofs.em_probe_load.Tie as tie
-use Rattle.emethod_c.proofs.em_probe_load.Reads as reads
-use Rattle.emethod_c.proofs.em_probe_load.Lts as lts
-use Rattle.emethod_c.proofs.probe.Reads as probe-reads
-use Rattle.evaluator.proofs.load.Reads as load-reads
 
--- src/lib.rt:75:9
 load-requires : tie.Need-load-requires
 load-requires c κs = search needs
 
--- src/lib.rt:77:9
 returns : tie.Need-returns
 returns c =
-    let l = c .before .before in
+    let l = c .before in
     probe-refused (l .before .before .args .frame .now) (l .load .result) (l .load .ensures) (c .if1 .taken) (l .before .before .args .row) (l .before .before .args .column)
 
--- src/lib.rt:80:5
 probe-requires : tie.Need-probe-requires
 probe-requires c κs = search needs
 
--- src/lib.rt:71:1
 returns-2 : tie.Need-returns-2
 returns-2 c =
-    let e = c .before .before .before .before .before in
-    let l = e .before .before in
+    let e = c .before .before .before .before in
+    let l = e .before in
     rw (plain (c .probe .result) (c .probe .ok))
     (probe-accepted (l .before .before .args .frame .now) (l .load .result) (l .load .ensures) (e .if1 .left) (l .before .before .args .row) (l .before .before .args .column)
     (c .probe .result) (c .probe .ensures))

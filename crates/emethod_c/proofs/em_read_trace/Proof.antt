@@ -13,21 +13,21 @@ answer-requires c κs = search needs
 
 returns : tie.Need-returns
 returns c =
-    let l = c .before .before .before in
+    let l = c .before .before in
     let a = l .before .before .args in
     read-refused (a .trace .now) (l .read-trace .result) (l .read-trace .ensures) (c .before .if1 .taken) (c .answer .result) (a .words .now) (c .answer .ensures)
 
 mul-size : tie.Need-mul-size
 mul-size c =
-    let l = c .before .before .before .before .before in
-    let e = c .before .before .before in
+    let l = c .before .before .before in
+    let e = c .before .before in
     let a = l .before .before .args in
     omega (arith, read-count (a .trace .now) (l .read-trace .result) (l .read-trace .ensures) (e .if1 .left))
 
 add-size : tie.Need-add-size
 add-size c =
-    let l = c .before .before .before .before .before in
-    let e = c .before .before .before in
+    let l = c .before .before .before in
+    let e = c .before .before in
     let a = l .before .before .args in
     omega (arith, read-count (a .trace .now) (l .read-trace .result) (l .read-trace .ensures) (e .if1 .left))
 
@@ -36,16 +36,16 @@ answer-requires-2 c κs = search needs
 
 returns-2 : tie.Need-returns-2
 returns-2 c =
-    let l = c .before .before .before .before .before .before .before in
-    let e = c .before .before .before .before .before in
+    let l = c .before .before .before .before .before in
+    let e = c .before .before .before .before in
     let a = l .before .before .args in
     read-short (a .trace .now) (l .read-trace .result) (l .read-trace .ensures) (e .if1 .left)
     (c .answer2 .result) (a .words .now) (c .before .if2 .taken) (c .answer2 .ensures)
 
 put-words-requires : tie.Need-put-words-requires
 put-words-requires c κs =
-    let l = c .before .before .before .before .before .before .before .before .before in
-    let e = c .before .before .before .before .before .before .before in
+    let l = c .before .before .before .before .before .before .before in
+    let e = c .before .before .before .before .before .before in
     let a = l .before .before .args in (
       read-limits (a .trace .now) (l .read-trace .result) (l .read-trace .ensures) (e .if1 .left),
       read-steps (a .trace .now) (l .read-trace .result) (l .read-trace .ensures) (e .if1 .left),
@@ -60,8 +60,8 @@ same-length c = search needs
 
 returns-3 : tie.Need-returns-3
 returns-3 c =
-    let l = c .before .before .before .before .before .before .before .before .before .before .before .before in
-    let e = c .before .before .before .before .before .before .before .before .before .before in
+    let l = c .before .before .before .before .before .before .before .before .before .before in
+    let e = c .before .before .before .before .before .before .before .before .before in
     let a = l .before .before .args in
     read-whole (a .trace .now) (l .read-trace .result) (l .read-trace .ensures) (e .if1 .left)
     (c .answer3 .result) (a .words .now) _ (c .before .before .before .before .before .before .if2 .left) (c .answer3 .ensures) (c .before .before .put-words .ensures)

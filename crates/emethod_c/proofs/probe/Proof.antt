@@ -4,44 +4,33 @@ use Rattle.bitfields.proofs.Twos.{plain}
 use Rattle.emethod_c.specs.Foreign.{probed}
 use Rattle.emethod_c.proofs.probe.Statement.{statement}
 use Rattle.emethod_c.proofs.probe.Tie as tie
-use Rattle.emethod_c.proofs.probe.Reads as reads
-use Rattle.emethod_c.proofs.probe.Lts as lts
 
--- src/lib.rt:62:9
 returns : tie.Need-returns
 unfolding probed
 returns c = simp (le-ltb _ _ (c .if1 .taken))
 
--- src/lib.rt:65:18
 mul-result : tie.Need-mul-result
 mul-result c = search needs
 
--- src/lib.rt:65:18
 add-result : tie.Need-add-result
 add-result c = search needs
 
--- src/lib.rt:65:16
 mul-result-2 : tie.Need-mul-result-2
 mul-result-2 c = search needs
 
--- src/lib.rt:65:16
 element-copy-out-result : tie.Need-element-copy-out-result
 element-copy-out-result c = search needs
 
--- src/lib.rt:65:9
 returns-2 : tie.Need-returns-2
 unfolding probed
 returns-2 c = rw (plain _ (c .result .given), lt-ltb _ _ (c .before .before .if1 .left), lt-ltb _ _ (c .before .if2 .taken))
 
--- src/lib.rt:67:5
 mul-result-3 : tie.Need-mul-result-3
 mul-result-3 c = search needs
 
--- src/lib.rt:67:5
 element-copy-out-result-2 : tie.Need-element-copy-out-result-2
 element-copy-out-result-2 c = search needs
 
--- src/lib.rt:58:1
 returns-3 : tie.Need-returns-3
 unfolding probed
 returns-3 c = rw (plain _ (c .result2 .given), lt-ltb _ _ (c .before .before .if1 .left), le-ltb _ _ (c .before .if2 .left))

@@ -1,27 +1,30 @@
--- The invariant: the first x of the n digits are put, and the other words are as they came. The measure is what is left of the digits.
+-- The invariant: of the first x digits those of the n rows are put, and the other words are as they came. The measure is what is left of the turns.
 use borrow.Author.Needs.{needs}
-use mathlib.Core.Path.{_≡_, refl, _∙_}
-use Prim.Native.Nat.{_+_, _-_, _≤_}
+use mathlib.Core.Logic.{⊎-elim}
+use mathlib.Core.Path.{_≡_, refl, ap, _∙_}
+use Prim.Native.Nat.{_-_, _≤_, min}
 use native.Mathlib.Omega.{arith}
 use lib.ListN.{length, length-set}
 use lib.Seq.{sets}
-use Rattle.integers.specs.Flat.{at, list-from}
+use Rattle.integers.specs.Flat.{list-from}
 use Rattle.bitfields.proofs.Twos.{plain}
 use Rattle.trace.specs.Groups.{digits-from}
 use Rattle.trace.proofs.Digit as digit
-use Rattle.trace.proofs.Steps.{store-turn}
+use Rattle.emethod_c.proofs.Traces.{digit-put, digit-none}
 use Rattle.emethod_c.proofs.put_step.Statement.{statement}
 use Rattle.emethod_c.proofs.put_step.Tie as tie
 
 abbrev Inv-loop : tie.InvT-loop
-Inv-loop d from n words₀ to x₀ words x = (x ≤ n) × (length words ≡ length words₀) × (words ≡ sets words₀ to (digits-from d from x))
+Inv-loop d from n words₀ to x₀ words x = (x ≤ 16) × (length words ≡ length words₀) × (words ≡ sets words₀ to (digits-from d from (min x n)))
 
 abbrev μ-loop : tie.MeasureT-loop
-μ-loop d from n words₀ to x₀ words x = n - x
+μ-loop d from n words₀ to x₀ words x = 16 - x
 
 loop-holds : tie.Need-loop-holds Inv-loop μ-loop
 unfolding list-from
-loop-holds c = (omega arith, refl, refl)
+loop-holds c =
+    let e : min 0 (c .args .n) ≡ 0 = omega arith in
+    (omega arith, refl, rw e)
 
 add-widen : tie.Need-add-widen Inv-loop μ-loop
 add-widen c = omega arith
@@ -49,20 +52,28 @@ loop-less c = omega arith
 
 loop-again : tie.Need-loop-again Inv-loop μ-loop
 loop-again c =
-    let l = c .before .before .before .loop in
-    let a = c .before .before .before .before .args in (
+    let l = c .before .before .loop in
+    let a = c .before .before .before .args in
+    ⊎-elim
+    (λ h. (
       omega arith,
-      simp length-set (l .inv .1),
-      store-turn (a .words .now) (l .words) (a .to) (l .x) (λ x. at (a .d .now) (a .from + x)) _ (l .inv .2)
-          (plain (c .widen .result) (c .widen .ok) ∙ c .widen .ensures ∙ digit.plain _ (c .before .widen-arg .given)),
-    )
+      ap length (h .3) ∙ simp length-set (l .inv .1),
+      digit-put (a .d .now) (a .words .now) (l .words) (c .if1 .words) (a .from) (a .to) (l .x) (a .n) _ (h .0 .taken) (l .inv .2) (h .3)
+          (plain (h .2 .result) (h .2 .ok) ∙ h .2 .ensures ∙ digit.plain _ (h .1 .given)),
+    ))
+    (λ h. (
+      omega arith,
+      ap length (h .1) ∙ l .inv .1,
+      digit-none (a .d .now) (a .words .now) (l .words) (c .if1 .words) (a .from) (a .to) (l .x) (a .n) (h .0 .left) (l .inv .2) (h .1),
+    ))
+    (c .if1 .came)
 
 same-length : tie.Need-same-length Inv-loop μ-loop
 same-length c = c .before .loop .inv .1
 
 returns : tie.Need-returns Inv-loop μ-loop
 returns c =
-    let e : c .before .loop .x ≡ c .before .before .args .n = omega arith in
+    let e : min (c .before .loop .x) (c .before .before .args .n) ≡ c .before .before .args .n = omega arith in
     rw e at (c .before .loop .inv .2)
 
 pub put-step-spec : {M : Type 1} → statement M

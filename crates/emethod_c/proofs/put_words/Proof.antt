@@ -52,7 +52,7 @@ put-step-requires : tie.Need-put-step-requires Inv-loop μ-loop
 put-step-requires c κs =
     let t = c .before in
     let b = t .before .before .before .before .before in
-    (omega (arith, last t, b .pre .0 .order-most), omega (arith, ends t, same t, b .pre .2), omega (arith, ends t, most t))
+    (b .pre .0 .order-most, omega (arith, last t, b .pre .0 .order-most), omega (arith, ends t, same t, b .pre .2), omega (arith, ends t, most t))
 
 add-to : tie.Need-add-to Inv-loop μ-loop
 add-to c = let t = c .before .before .before in omega (arith, ends t, most t)

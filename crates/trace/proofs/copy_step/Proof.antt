@@ -11,10 +11,10 @@ use Rattle.trace.proofs.copy_step.Statement.{statement}
 use Rattle.trace.proofs.copy_step.Tie as tie
 
 abbrev Inv-loop : tie.InvT-loop
-Inv-loop from to₀ at n x₀ to x = (x ≤ n) × (to ≡ sets to₀ at (digits-from from at x))
+Inv-loop from i to₀ at n x₀ to x = (x ≤ n) × (to ≡ sets to₀ at (digits-from from i x))
 
 abbrev μ-loop : tie.MeasureT-loop
-μ-loop from to₀ at n x₀ to x = n - x
+μ-loop from i to₀ at n x₀ to x = n - x
 
 loop-holds : tie.Need-loop-holds Inv-loop μ-loop
 unfolding list-from
@@ -26,8 +26,8 @@ add-to c = omega arith
 element-copy-out-to : tie.Need-element-copy-out-to Inv-loop μ-loop
 element-copy-out-to c = omega arith
 
-add-t11 : tie.Need-add-t11 Inv-loop μ-loop
-add-t11 c = omega arith
+add-t12 : tie.Need-add-t12 Inv-loop μ-loop
+add-t12 c = omega arith
 
 element-set-from-to : tie.Need-element-set-from-to Inv-loop μ-loop
 element-set-from-to c = omega arith
@@ -42,7 +42,7 @@ loop-again : tie.Need-loop-again Inv-loop μ-loop
 loop-again c =
     let l = c .before .before .loop in
     let a = c .before .before .before .args in
-    (omega arith, rw (plain _ (c .to .given)) (store-turn (a .to .now) (l .to) (a .at) (l .x) (λ x. at (a .from .now) (a .at + x)) _ (l .inv .1) refl))
+    (omega arith, rw (plain _ (c .to .given)) (store-turn (a .to .now) (l .to) (a .at) (l .x) (λ x. at (a .from .now) (a .i + x)) _ (l .inv .1) refl))
 
 returns : tie.Need-returns Inv-loop μ-loop
 returns c =
@@ -58,7 +58,7 @@ copy-step-spec =
     loop-holds
     add-to
     element-copy-out-to
-    add-t11
+    add-t12
     element-set-from-to
     add-x
     loop-less

@@ -1,33 +1,30 @@
--- `trace::gather` meets its contract. The loop's invariant: v is the number that the first x digits spell, so it has 5 x bits. Assumes nothing.
-use mathlib.Core.Path.{_≡_, refl, ap, _∙_}
-use Prim.Native.Nat.{_+_, _-_, _^_, _<_, _≤_}
+-- `trace::gather` meets its contract. The loop's invariant: the first x digits spell v, and without those past the c-th they spell what the first c of
+-- them spell. Assumes nothing.
+use borrow.Author.Needs.{needs}
+use mathlib.Core.Path.{_≡_, ap, _∙_}
+use Prim.Native.Nat.{_+_, _-_, _*_, _/_, _^_, _<_, _≤_, min}
 use native.Mathlib.Omega.{arith}
-use Rattle.integers.specs.Flat.{at, list-from}
+use Rattle.integers.specs.Flat.{at}
 use Rattle.bitfields.specs.Layout.{number}
-use Rattle.bitfields.specs.Twos.{encode, Fits}
-use Rattle.bitfields.proofs.Twos.{encode-lt}
+use Rattle.bitfields.specs.Twos.{encode}
 use Rattle.trace.specs.Groups.{digits-from, digit-fields}
 use Rattle.trace.proofs.Digit.{plain-digit}
-use Rattle.trace.proofs.Steps.{gather-turn, gathered-small}
+use Rattle.trace.proofs.Steps.{gather-end, gather-lt, gather-next, gather-small, gather-start}
 use Rattle.trace.proofs.gather.Statement.{statement}
 use Rattle.trace.proofs.gather.Tie as tie
 
 abbrev Inv-loop : tie.InvT-loop
-Inv-loop d at c v₀ x₀ v x = (x ≤ c) × (v ≡ number (digit-fields (digits-from d at x)))
+Inv-loop d at c v₀ x₀ v x = (x ≤ 8) × (v < 2 ^ (5 * x)) × (v / 2 ^ (5 * (x - c)) ≡ number (digit-fields (digits-from d at (min x c))))
 
 abbrev μ-loop : tie.MeasureT-loop
-μ-loop d at c v₀ x₀ v x = c - x
+μ-loop d at c v₀ x₀ v x = 8 - x
 
 loop-holds : tie.Need-loop-holds Inv-loop μ-loop
-unfolding list-from number
-loop-holds c = (omega arith, refl)
+loop-holds c = (omega arith, omega arith, gather-start (c .args .d .now) (c .args .at) (c .args .c))
 
--- in a turn: the number so far is small, and the digit fits 5 bits
+-- in a turn: the number so far is small
 small : (t : tie.In-loop Inv-loop μ-loop) → t .before .loop .v < 2 ^ 35
-small t = rw (t .before .loop .inv .1) (gathered-small (t .before .before .pre .2) (t .before .loop .x) (omega arith) (t .before .before .pre .0))
-
-next-fits : (t : tie.In-loop Inv-loop μ-loop) → Fits 5 (at (t .before .before .args .d .now) (t .before .before .args .at + t .before .loop .x))
-next-fits t = t .before .before .pre .2 .each-fits (t .before .loop .x) (omega arith)
+small t = gather-small (t .before .loop .x) (t .before .loop .inv .1) (omega arith)
 
 mul-v : tie.Need-mul-v Inv-loop μ-loop
 mul-v c = omega (arith, small c)
@@ -39,16 +36,18 @@ element-copy-out-to-bits : tie.Need-element-copy-out-to-bits Inv-loop μ-loop
 element-copy-out-to-bits c = omega arith
 
 to-bits-requires : tie.Need-to-bits-requires Inv-loop μ-loop
-to-bits-requires c κs = let f = next-fits (c .before) in rw (plain-digit _ f) f
+to-bits-requires c κs = search needs
 
-next-bits : (c : tie.After-to-bits Inv-loop μ-loop)
-    → c .to-bits .result ≡ encode 5 (at (c .before .before .before .before .args .d .now) (c .before .before .before .before .args .at + c .before .before .before .loop .x))
-next-bits c = c .to-bits .ensures ∙ ap (encode 5) (plain-digit _ (next-fits (c .before .before)))
+-- the bits of a digit that counts
+next-bits : (c : tie.After-to-bits Inv-loop μ-loop) → let t = c .before .before .before in
+    t .loop .x < t .before .args .c → c .to-bits .result ≡ encode 5 (at (t .before .args .d .now) (t .before .args .at + t .loop .x))
+next-bits c l =
+    let t = c .before .before .before in
+    let f = t .before .pre .2 .each-fits (t .loop .x) l in
+    c .to-bits .ensures .1 (rw (plain-digit _ f) f) ∙ ap (encode 5) (plain-digit _ f)
 
 add-v : tie.Need-add-v Inv-loop μ-loop
-add-v c =
-    let t = c .before .before in
-    omega (arith, small t, next-bits c, encode-lt {w = 5} (omega arith) (next-fits t))
+add-v c = omega (arith, small (c .before .before), c .to-bits .ensures .0)
 
 add-x : tie.Need-add-x Inv-loop μ-loop
 add-x c = omega arith
@@ -58,14 +57,27 @@ loop-less c = omega arith
 
 loop-again : tie.Need-loop-again Inv-loop μ-loop
 loop-again c =
-    let t = c .before .before in
-    let a = t .before .before .args in
-    (omega arith, gather-turn (a .d .now) (a .at) (t .before .loop .x) (t .before .loop .v) (c .to-bits .result) (t .before .loop .inv .1) (next-bits c))
+    let t = c .before .before .before in
+    let a = t .before .args in (
+      omega arith,
+      gather-lt (t .loop .x) (t .loop .inv .1) (c .to-bits .ensures .0),
+      gather-next (a .d .now) (a .at) (a .c) (t .loop .x) (t .loop .v) (c .to-bits .result) (c .to-bits .ensures .0) (next-bits c) (t .loop .inv .2),
+    )
+
+sub-result : tie.Need-sub-result Inv-loop μ-loop
+sub-result c = omega arith
+
+mul-result : tie.Need-mul-result Inv-loop μ-loop
+mul-result c = omega arith
+
+shr-result : tie.Need-shr-result Inv-loop μ-loop
+shr-result c = omega arith
 
 returns : tie.Need-returns Inv-loop μ-loop
 returns c =
-    let e : c .before .loop .x ≡ c .before .before .args .c = omega arith in
-    rw e at (c .before .loop .inv .1)
+    let l = c .before .loop in
+    let a = c .before .before .args in
+    gather-end (a .d .now) (a .at) (a .c) (l .x) (l .v) (omega arith) (c .before .before .pre .0) (l .inv .2)
 
 pub gather-spec : {M : Type 1} → statement M
 gather-spec =
@@ -82,4 +94,7 @@ gather-spec =
     add-x
     loop-less
     loop-again
+    sub-result
+    mul-result
+    shr-result
     returns)

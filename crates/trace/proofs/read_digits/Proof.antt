@@ -5,7 +5,7 @@ use native.Mathlib.Omega.{arith}
 use Rattle.bitfields.specs.Twos.{numbers}
 use Rattle.trace.specs.Trace.{digit-array}
 use Rattle.trace.specs.Digits.{digit-array-none}
-use Rattle.trace.proofs.Steps.{place-next, place-room, place-small, read-turn}
+use Rattle.trace.proofs.Steps.{place-next, place-room, place-small, read-turn, step-clear}
 use Rattle.trace.proofs.read_digits.Statement.{statement}
 use Rattle.trace.proofs.read_digits.Tie as tie
 
@@ -31,7 +31,8 @@ small t = place-small (t .before .before .before .args .n) (t .before .loop .j) 
 read-step-requires : tie.Need-read-step-requires Inv-loop μ-loop
 read-step-requires c κs =
     let t = c .before in
-    (omega (arith, room t), omega arith, omega arith, omega arith, omega (arith, small t))
+    let l = t .before .loop in
+    (omega (arith, room t), omega arith, omega arith, omega arith, omega (arith, small t), step-clear (l .d) _ (t .before .before .before .args .n) (l .j) (omega arith) (l .inv .2))
 
 mul-p : tie.Need-mul-p Inv-loop μ-loop
 mul-p c = omega arith

@@ -1,51 +1,55 @@
 -- `trace::read_step` meets its contract. At most eight rows are one field, and more are two. Assumes nothing.
+use Prim.Native.Nat.{_+_, _-_, _*_}
+use native.Mathlib.Omega.{arith}
 use borrow.Author.Needs.{needs}
-use Rattle.trace.proofs.Steps.{step-read, steps-read}
+use Rattle.bitfields.proofs.Reading.{field-lt}
+use Rattle.trace.proofs.Steps.{eight-fits, step-read, steps-read}
 use Rattle.trace.proofs.read_step.Statement.{statement}
 use Rattle.trace.proofs.read_step.Tie as tie
 
-mul-read-field : tie.Need-mul-read-field
-mul-read-field c = search needs
-
-read-field-requires : tie.Need-read-field-requires
-read-field-requires c κs = search needs
+read-eight-requires : tie.Need-read-eight-requires
+read-eight-requires c κs = search needs
 
 spread-requires : tie.Need-spread-requires
-spread-requires c κs = search needs
+spread-requires c κs =
+    let f = c .before in
+    let a = f .before .before .before .args in
+    (rw (f .read-eight .ensures) (eight-fits (a .n) (f .before .if1 .taken) (field-lt (a .b .now) (a .p) (5 * a .n))), omega arith)
 
 returns : tie.Need-returns
 returns c =
     let f = c .before .before in
     let s = f .before .before .before in
     let a = s .args in
-    step-read (a .b .now) (a .d .now) _ (a .p) (a .n) (a .at) (f .read-field .result) (s .pre .0) (f .read-field .ensures) (c .spread .ensures)
+    step-read (a .b .now) (a .d .now) _ (a .p) (a .n) (a .at) (f .read-eight .result) (s .pre .0) (f .before .if1 .taken) (s .pre .5)
+    (f .read-eight .ensures) (c .spread .ensures)
 
-read-field-requires-2 : tie.Need-read-field-requires-2
-read-field-requires-2 c κs = search needs
+read-field-requires : tie.Need-read-field-requires
+read-field-requires c κs = search needs
 
 spread-requires-2 : tie.Need-spread-requires-2
-spread-requires-2 c κs = search needs
+spread-requires-2 c κs =
+    let f = c .before in
+    let a = f .before .before .before .args in
+    (rw (f .read-field .ensures) (field-lt (a .b .now) (a .p) 40), omega arith)
 
-add-read-field : tie.Need-add-read-field
-add-read-field c = search needs
+add-read-eight : tie.Need-add-read-eight
+add-read-eight c = search needs
 
-sub-read-field : tie.Need-sub-read-field
-sub-read-field c = search needs
+sub-read-eight : tie.Need-sub-read-eight
+sub-read-eight c = search needs
 
-mul-read-field-2 : tie.Need-mul-read-field-2
-mul-read-field-2 c = search needs
-
-read-field-requires-3 : tie.Need-read-field-requires-3
-read-field-requires-3 c κs = search needs
-
-sub-spread : tie.Need-sub-spread
-sub-spread c = search needs
+read-eight-requires-2 : tie.Need-read-eight-requires-2
+read-eight-requires-2 c κs = search needs
 
 add-spread : tie.Need-add-spread
 add-spread c = search needs
 
 spread-requires-3 : tie.Need-spread-requires-3
-spread-requires-3 c κs = search needs
+spread-requires-3 c κs =
+    let g = c .before in
+    let a = g .before .before .before .before .before .before .args in
+    (rw (g .read-eight2 .ensures) (eight-fits (a .n - 8) (omega arith) (field-lt (a .b .now) (a .p + 40) (5 * (a .n - 8)))), omega arith)
 
 returns-2 : tie.Need-returns-2
 returns-2 c =
@@ -54,24 +58,21 @@ returns-2 c =
     let f = e .before .before in
     let s = f .before .before .before in
     let a = s .args in
-    steps-read (a .b .now) (a .d .now) _ _ (a .p) (a .n) (a .at) (f .read-field2 .result) (g .read-field3 .result) (s .pre .0) (f .before .if1 .left)
-    (f .read-field2 .ensures) (e .spread2 .ensures) (g .read-field3 .ensures) (c .spread3 .ensures)
+    steps-read (a .b .now) (a .d .now) _ _ (a .p) (a .n) (a .at) (f .read-field .result) (g .read-eight2 .result) (s .pre .0) (f .before .if1 .left) (s .pre .2) (s .pre .5)
+    (f .read-field .ensures) (e .spread2 .ensures) (g .read-eight2 .ensures) (c .spread3 .ensures)
 
 pub read-step-spec : {M : Type 1} → statement M
 read-step-spec =
     tie.close
     (tie.spec
-    mul-read-field
-    read-field-requires
+    read-eight-requires
     spread-requires
     returns
-    read-field-requires-2
+    read-field-requires
     spread-requires-2
-    add-read-field
-    sub-read-field
-    mul-read-field-2
-    read-field-requires-3
-    sub-spread
+    add-read-eight
+    sub-read-eight
+    read-eight-requires-2
     add-spread
     spread-requires-3
     returns-2)

@@ -1,19 +1,23 @@
 -- `trace::to_bits` meets its contract. Assumes nothing.
-use Rattle.trace.proofs.Digit.{bits-are, raised-cast, raised-clean, raised-fits, raised-more}
+use mathlib.Core.Path.{_∙_}
+use borrow.Author.Needs.{needs}
+use Rattle.trace.proofs.Digit.{last-bits, plain, raised-fits, raised-least}
 use Rattle.trace.proofs.to_bits.Statement.{statement}
 use Rattle.trace.proofs.to_bits.Tie as tie
 
-add-result : tie.Need-add-result
-add-result c = raised-fits (c .args .z) (c .pre)
+widen-requires : tie.Need-widen-requires
+widen-requires c κs = search needs
 
-cast-result : tie.Need-cast-result
-cast-result c = rw (raised-clean (c .args .z) (c .pre)) (raised-cast (c .args .z) (c .pre))
+add-to-unsigned : tie.Need-add-to-unsigned
+add-to-unsigned c = raised-fits (c .before .args .z) (c .widen .result) (c .before .fits .z .sfits) (c .widen .ensures ∙ plain _ (c .before .fits .z .sfits))
 
-add-result-2 : tie.Need-add-result-2
-add-result-2 c = rw (raised-clean (c .args .z) (c .pre)) (raised-more (c .args .z) (c .pre))
+to-unsigned-requires : tie.Need-to-unsigned-requires
+to-unsigned-requires c κs = raised-least (c .before .args .z) (c .widen .result) (c .before .fits .z .sfits) (c .widen .ensures ∙ plain _ (c .before .fits .z .sfits))
 
 returns : tie.Need-returns
-returns c = rw (raised-clean (c .args .z) (c .pre)) (bits-are (c .args .z) (c .pre))
+returns c =
+    let w = c .before in
+    last-bits (w .before .args .z) (w .widen .result) (w .before .fits .z .sfits) (w .widen .ensures ∙ plain _ (w .before .fits .z .sfits)) (c .to-unsigned .result) (c .to-unsigned .ensures)
 
 pub to-bits-spec : {M : Type 1} → statement M
-to-bits-spec = tie.close (tie.spec add-result cast-result add-result-2 returns)
+to-bits-spec = tie.close (tie.spec widen-requires add-to-unsigned to-unsigned-requires returns)

@@ -1,20 +1,30 @@
 -- `trace::to_digit` meets its contract. Assumes nothing.
+use mathlib.Core.Path.{_∙_}
+use Prim.Native.Nat.{_%_}
+use native.Mathlib.Omega.{arith}
 use borrow.Author.Needs.{needs}
-use Rattle.trace.proofs.Digit.{digit-fits, digit-is}
+use Rattle.trace.proofs.Digit.{lowered-fits, lowered-is, lowered-within, plain}
 use Rattle.trace.proofs.to_digit.Statement.{statement}
 use Rattle.trace.proofs.to_digit.Tie as tie
 
-add-result : tie.Need-add-result
-add-result c = search needs
+add-to-signed : tie.Need-add-to-signed
+add-to-signed c = search needs
 
-cast-result : tie.Need-cast-result
-cast-result c = search needs
+to-signed-requires : tie.Need-to-signed-requires
+to-signed-requires c κs = search needs
 
-sub-result : tie.Need-sub-result
-sub-result c = digit-fits (c .args .u) (c .pre)
+sub-narrow : tie.Need-sub-narrow
+sub-narrow c = let s = c .before in lowered-fits (s .args .u) (s .args .u % 32) (omega arith) (s .pre) (c .to-signed .result) (c .to-signed .ensures)
+
+narrow-requires : tie.Need-narrow-requires
+narrow-requires c κs = let s = c .before in lowered-within (s .args .u) (s .args .u % 32) (omega arith) (s .pre) (c .to-signed .result) (c .to-signed .ensures)
 
 returns : tie.Need-returns
-returns c = digit-is (c .args .u) (c .pre)
+returns c =
+    let w = c .before in
+    let s = w .before in
+    plain (c .narrow .result) (c .narrow .ok) ∙ c .narrow .ensures ∙ lowered-is (s .args .u) (s .args .u % 32) (omega arith) (s .pre) (w .to-signed .result) (w .to-signed .ensures)
 
 pub to-digit-spec : {M : Type 1} → statement M
-to-digit-spec = tie.close (tie.spec add-result cast-result sub-result returns)
+to-digit-spec =
+    tie.close (tie.spec add-to-signed to-signed-requires sub-narrow narrow-requires returns)

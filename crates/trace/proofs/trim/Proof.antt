@@ -20,8 +20,11 @@ loop-holds c = (omega arith, digit-array-none _ _)
 mul-copy-step : tie.Need-mul-copy-step Inv-loop μ-loop
 mul-copy-step c = omega arith
 
+mul-copy-step-2 : tie.Need-mul-copy-step-2 Inv-loop μ-loop
+mul-copy-step-2 c = omega arith
+
 copy-step-requires : tie.Need-copy-step-requires Inv-loop μ-loop
-copy-step-requires c κs = omega arith
+copy-step-requires c κs = (omega arith, omega arith)
 
 add-j : tie.Need-add-j Inv-loop μ-loop
 add-j c = omega arith
@@ -49,6 +52,7 @@ trim-spec =
     μ-loop
     loop-holds
     mul-copy-step
+    mul-copy-step-2
     copy-step-requires
     add-j
     loop-less
