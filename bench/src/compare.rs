@@ -93,6 +93,23 @@ fn both<T: Copy + PartialEq + Debug>(
     Ok((answer, by_plain))
 }
 
+/// The same of a call that writes bytes and counts them.
+fn both_bytes(
+    room: usize,
+    random: &mut Random,
+    plain: impl FnOnce(&mut [u8]) -> Answer,
+    library: impl FnOnce(&mut [u8]) -> Answer,
+) -> Result<(Answer, Vec<u8>), String> {
+    both(
+        room,
+        random,
+        |word| word as u8,
+        plain,
+        library,
+        Answer::count,
+    )
+}
+
 fn answer_text(answer: Answer) -> String {
     let (refusal, row, count) = (answer.refusal(), answer.row(), answer.count());
     format!("refusal {refusal} row {row} count {count}")
@@ -150,13 +167,11 @@ fn write_frame(
     room: usize,
     random: &mut Random,
 ) -> Result<(Answer, Vec<u8>), String> {
-    both(
+    both_bytes(
         room,
         random,
-        |word| word as u8,
         |lent| Plain::write_frame(fields, numbers, lent),
         |lent| Library::write_frame(fields, numbers, lent),
-        Answer::count,
     )
     .map_err(|what| format!("em_write_frame, {what}\n{fields:?}\nnumbers: {numbers:X?}"))
 }
@@ -167,13 +182,11 @@ fn write_trace(
     room: usize,
     random: &mut Random,
 ) -> Result<(Answer, Vec<u8>), String> {
-    both(
+    both_bytes(
         room,
         random,
-        |word| word as u8,
         |lent| Plain::write_trace(frame, budget, lent),
         |lent| Library::write_trace(frame, budget, lent),
-        Answer::count,
     )
     .map_err(|what| format!("em_write_trace, budget {budget}, {what}"))
 }
@@ -200,13 +213,11 @@ fn rewrite_trace(
     random: &mut Random,
 ) -> Result<(Answer, Vec<u8>), String> {
     let times = random.between(1, 3) as u64;
-    both(
+    both_bytes(
         room,
         random,
-        |word| word as u8,
         |lent| Plain::rewrite_trace(trace, times, lent),
         |lent| Library::rewrite_trace(trace, times, lent),
-        Answer::count,
     )
     .map_err(|what| format!("em_rewrite_trace, {times} times, {what}"))
 }

@@ -4,7 +4,7 @@ use std::hint::black_box;
 use std::time::{Duration, Instant};
 
 use crate::inputs::{pack_frame, Light};
-use crate::plain::Fields;
+use crate::plain::{calls, Fields};
 use crate::random::Random;
 use crate::sides::{Library, Plain, Side};
 
@@ -155,6 +155,14 @@ fn trace_read<S: Side>(traces: &[Vec<u8>]) -> impl FnMut(usize) + '_ {
     }
 }
 
+fn trace_read_by_eights(traces: &[Vec<u8>]) -> impl FnMut(usize) + '_ {
+    let mut words = [0; 967];
+    move |input| {
+        let trace = black_box(&traces[input]);
+        let _ = black_box(calls::trace_words_by_eights(trace, black_box(&mut words)));
+    }
+}
+
 /// Measures everything and prints the tables.
 pub fn run(effort: &Effort, random: &mut Random) {
     let sorts = [
@@ -209,6 +217,14 @@ pub fn run(effort: &Effort, random: &mut Random) {
             trace_read::<Library>(traces),
         );
         line(&format!("trace read, {name}"), &timing);
+    }
+    for (name, traces) in &traces {
+        let timing = time_both(
+            effort,
+            trace_read_by_eights(traces),
+            trace_read::<Library>(traces),
+        );
+        line(&format!("by eights, {name}"), &timing);
     }
 
     heading("growth of a whole job, system r 2");

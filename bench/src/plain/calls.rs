@@ -2,7 +2,7 @@
 
 use std::hint::black_box;
 
-use super::{read_trace, write_trace, Fields, Refusal, State};
+use super::{read_trace, read_trace_by_eights, write_trace, Fields, Record, Refusal, State};
 
 /// Loads a frame and lets it go. Gives how many numbers it holds.
 pub fn check_frame(frame: &[u8]) -> Result<usize, Refusal> {
@@ -37,7 +37,15 @@ fn load_and_advance(frame: &[u8], budget: u64) -> Result<(State, usize), Refusal
 
 /// Reads a trace into words: the fields, k and the digits. Gives how many.
 pub fn trace_words(trace: &[u8], words: &mut [i64]) -> Result<usize, Refusal> {
-    let record = read_trace(trace)?;
+    hand_out(&read_trace(trace)?, words)
+}
+
+/// The same by the harder opponent.
+pub fn trace_words_by_eights(trace: &[u8], words: &mut [i64]) -> Result<usize, Refusal> {
+    hand_out(&read_trace_by_eights(trace)?, words)
+}
+
+fn hand_out(record: &Record, words: &mut [i64]) -> Result<usize, Refusal> {
     let Fields {
         kind,
         code,

@@ -19,6 +19,32 @@ fn digits_within(digits: &[i8], p: usize) -> bool {
 
 /// Reads a trace. Refused by 1 to 5, 10, 6, 7, 11.
 pub fn read_trace(trace: &[u8]) -> Result<Record, Refusal> {
+    read_with(trace, |rest, count| {
+        (0..count).map(|_| rest.signed(5) as i8).collect()
+    })
+}
+
+/// The same with eight digits taken at once, as one field of 40 bits: a harder opponent than a plain one, and measured beside it.
+pub fn read_trace_by_eights(trace: &[u8]) -> Result<Record, Refusal> {
+    read_with(trace, |rest, count| {
+        let mut digits = vec![0; count];
+        for eight in digits.chunks_mut(8) {
+            // The last digit of a field stands lowest.
+            let mut field = rest.unsigned(5 * eight.len());
+            for digit in eight.iter_mut().rev() {
+                *digit = (field << 3) as i8 >> 3;
+                field >>= 5;
+            }
+        }
+        digits
+    })
+}
+
+/// Reads a trace, its digits by a function that takes so many from the bits after k.
+fn read_with(
+    trace: &[u8],
+    take_digits: impl Fn(&mut BitReader, usize) -> Vec<i8>,
+) -> Result<Record, Refusal> {
     if trace.len() < HEADER_BYTES + 1 {
         return Err(Refusal::TooFewBytes);
     }
@@ -31,15 +57,7 @@ pub fn read_trace(trace: &[u8]) -> Result<Record, Refusal> {
     if trace.len() != fields.trace_bytes(k) {
         return Err(Refusal::Length);
     }
-    // Eight digits are one field of 40 bits, the last of them lowest.
-    let mut digits = vec![0; k * fields.n];
-    for eight in digits.chunks_mut(8) {
-        let mut field = rest.unsigned(5 * eight.len());
-        for digit in eight.iter_mut().rev() {
-            *digit = (field << 3) as i8 >> 3;
-            field >>= 5;
-        }
-    }
+    let digits = take_digits(&mut rest, k * fields.n);
     if !rest.rest_is_zero() {
         return Err(Refusal::Filling);
     }
@@ -112,6 +130,7 @@ mod tests {
         let mut lent = [7; 6];
         assert_eq!(write_trace(&good, &mut lent), Ok(5));
         assert_eq!(lent[5], 7);
-        assert_eq!(read_trace(&lent[..5]), Ok(good));
+        assert_eq!(read_trace(&lent[..5]), Ok(good.clone()));
+        assert_eq!(read_trace_by_eights(&lent[..5]), Ok(good));
     }
 }
