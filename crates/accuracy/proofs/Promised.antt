@@ -1,25 +1,54 @@
 -- What `evaluate` promises, over the variables of its code: of a refused frame, and of an accepted one.
-use mathlib.Core.Path.{_≡_, refl, ap, _∙_}
+use mathlib.Core.Path.{_≡_, refl, sym, ap, _∙_}
+use mathlib.Core.Bool.{true}
 use mathlib.Core.List.{List, [], _∷_, _++_}
-use Prim.Native.Nat.{ℕ, _<_, _≤_}
+use Prim.Native.Nat.{ℕ, _+_, _<_, _≤_}
 use native.Mathlib.Omega.{arith}
+use borrow.Author.Tests.{lt-ltb, le-ltb}
 use lib.IntN.{ℤ}
-use lib.ListN.{length}
-use Rattle.frame.specs.Frame.{frame-refusal}
+use lib.ListN.{length, drop}
+use Rattle.integers.specs.Flat.{list-from}
+use Rattle.job.specs.Header.{radix}
+use Rattle.job.specs.Limits.{steps-small}
+use Rattle.job.specs.Refusal.{first-refusal}
+use Rattle.job.specs.declared.Header.{Header}
+use Rattle.frame.specs.Frame.{frame-refusal, header-of, frame-numbers}
+use Rattle.recurrence.specs.Recurrence.{reading}
+use Rattle.state.specs.Digits.{digits-of}
+use Rattle.state.specs.Sound.{Sound, state-of}
+use Rattle.state.specs.State.{last-step, fresh, state-checks}
 use Rattle.state.specs.declared.State.{State}
-use Rattle.evaluator.specs.Evaluator.{loaded, readings-refusal, readings-list}
+use Rattle.evaluator.specs.Evaluator.{loaded, steps, least, state-reading, list-too-short, readings-refusal, readings-list}
 use Rattle.evaluator.specs.declared.Loaded.{Loaded}
+use Rattle.evaluator.specs.Steppable.{Steppable}
+use Rattle.evaluator.proofs.Kept.{fresh-start, loaded-sound, loaded-passes, steps-sound}
+use Rattle.evaluator.specs.Readable.{RowsReadable}
+use Rattle.evaluator.proofs.Calls.{readings-refuses, readings-writes}
+use Rattle.evaluator.proofs.Follow.{steps-header, steps-k}
+use Rattle.evaluator.proofs.Horner.{sound-readable}
+use Rattle.evaluator.proofs.Stepping.{fresh-whole}
+use Rattle.evaluator.proofs.Theorems.{accepted-load}
 use Rattle.accuracy.specs.Accuracy.{after}
-use Rattle.accuracy.specs.Calls.{run, advances, readings}
+use Rattle.accuracy.specs.Calls.{run, budgets, advances, readings}
 use Rattle.accuracy.specs.Promise.{Promise}
 use Rattle.accuracy.proofs.Demand3.{accurate}
+use Rattle.accuracy.proofs.Runs.{run-is, allowed-most}
 
-module _ (frame budgets : List ℕ) (given : List ℤ) (l : Loaded) (e : l ≡ loaded frame) where
+-- a state's digits and readings, by its header, its steps and its digits
+readable-of : (t : State) {h : Header} {k : ℕ} {ds : List ℤ} → t .header ≡ h → t .k ≡ k → ds ≡ t .digits → Sound t → RowsReadable h k ds
+readable-of t eh ek ed p = rw (← eh, ← ek, ed) (sound-readable p)
+
+readings-of : (t : State) {h : Header} {k : ℕ} {ds left : List ℤ} (given : List ℤ) → t .header ≡ h → t .k ≡ k → ds ≡ t .digits
+    → left ≡ list-from 0 (h .n) (reading (radix (h .code)) (digits-of ds) k) ++ drop (h .n) given
+    → left ≡ list-from 0 (t .header .n) (state-reading t) ++ drop (t .header .n) given
+readings-of t given eh ek ed el = rw (eh, ek, ← ed) el
+
+module _ (frame list : List ℕ) (given : List ℤ) (l : Loaded) (e : l ≡ loaded frame) where
   refusal-is : l .refusal ≡ frame-refusal frame
   unfolding loaded
   refusal-is = ap (λ (x : Loaded). x .refusal) e
 
-  pub promise-refused : 0 < l .refusal → Promise frame budgets given (record { refusal = l .refusal; row = l .row; made = 0 }) given
+  pub promise-refused : 0 < l .refusal → Promise frame list given (record { refusal = l .refusal; row = l .row; made = 0 }) given
   unfolding loaded
   promise-refused h =
       record {
@@ -28,13 +57,87 @@ module _ (frame budgets : List ℕ) (given : List ℤ) (l : Loaded) (e : l ≡ l
         accurate = λ g. absurd (omega (arith, refusal-is));
       }
 
-  pub promise-accepted : (t : State) (c : ℕ) (left : List ℤ) → l .refusal ≤ 0 → t ≡ run (l .state) (advances budgets) → c ≡ readings-refusal t (length given) → left ≡ readings-list t given
-      → Promise frame budgets given (record { refusal = c; row = 0; made = t .k }) left
+  pub promise-accepted : (t : State) (c : ℕ) (left : List ℤ) → l .refusal ≤ 0 → t ≡ run (l .state) (advances list) → c ≡ readings-refusal t (length given) → left ≡ readings-list t given
+      → Promise frame list given (record { refusal = c; row = 0; made = t .k }) left
   promise-accepted t c left h et ec el =
       let ok : frame-refusal frame ≡ 0 = omega (arith, refusal-is) in
-      let f : t ≡ after frame (advances budgets) = et ∙ ap (λ (x : Loaded). run (x .state) (advances budgets)) e in
+      let f : t ≡ after frame (advances list) = et ∙ ap (λ (x : Loaded). run (x .state) (advances list)) e in
       record {
         refused = λ g. absurd (omega arith);
         accepted = λ g. rw (← f) (rw ec, el);
-        accurate = λ g. accurate frame ok (advances budgets ++ (readings given ∷ []));
+        accurate = λ g. accurate frame ok (advances list ++ (readings given ∷ []));
       }
+
+  -- an accepted frame's job, which load has made
+  module _ (h : l .refusal ≤ 0) where
+    ok : frame-refusal frame ≡ 0
+    ok = omega (arith, refusal-is)
+
+    abbrev job : State
+    job = l .state
+
+    job-is : job ≡ fresh (header-of frame) (frame-numbers frame)
+    job-is = ap (λ (x : Loaded). x .state) e ∙ accepted-load frame (sym (ap (λ (x : Loaded). x .refusal) e) ∙ refusal-is ∙ ok)
+
+    job-start : (job .busy ≡ true) × (job .k ≡ 0) × (job .header ≡ header-of frame)
+    job-start = rw job-is (fresh-start (header-of frame) (frame-numbers frame))
+
+    job-sound : Sound job
+    job-sound = rw job-is (loaded-sound frame ok)
+
+    pub last-small : last-step (job .header) ≤ 60
+    last-small = steps-small (job .header) (job-sound .limits)
+
+    passes : (j : ℕ) → j ≤ last-step (job .header) → first-refusal (state-checks (steps job j)) ≡ 0
+    passes j m = rw job-is (loaded-passes frame ok j (rw (job-start .2) at m))
+
+    -- the steps that the budgets allow
+    module _ (made : ℕ) (em : made ≡ least (last-step (job .header)) (budgets (advances list))) where
+      made-most : made ≤ last-step (job .header)
+      made-most = allowed-most (last-step (job .header)) made (budgets (advances list)) em
+
+      abbrev done : State
+      done = steps job made
+
+      run-made : done ≡ run job (advances list)
+      unfolding steps
+      run-made =
+          let z : 0 + budgets (advances list) ≡ budgets (advances list) = omega arith in
+          ap (steps job) (em ∙ ap (least (last-step (job .header))) (sym z)) ∙ sym (run-is job (job-start .1) passes 0 (advances list) (omega arith))
+
+      k-is : done .k ≡ made
+      k-is = omega (arith, steps-k job made, job-start .1)
+
+      room : length (job .digits) ≡ 960
+      unfolding fresh
+      room = rw job-is refl
+
+      pub steppable : Steppable (state-of true (job .header) 0 (job .g) (job .z) (job .digits)) made
+      steppable =
+          rw (fresh-whole job (job-start .0) (job-start .1))
+          (record { sound = job-sound; room = room; left = omega (arith, made-most, job-start .1) })
+
+      with-made : (c : ℕ) (left : List ℤ) → Promise frame list given (record { refusal = c; row = 0; made = done .k }) left → Promise frame list given (record { refusal = c; row = 0; made = made }) left
+      with-made c left p = rw k-is at p
+
+      -- what `make_steps` leaves, in `ds`, can be read
+      module _ (ds : List ℤ) (ed : ds ≡ steps (state-of true (job .header) 0 (job .g) (job .z) (job .digits)) made .digits) where
+        digits-are : ds ≡ done .digits
+        digits-are = rw (fresh-whole job (job-start .0) (job-start .1)) at ed
+
+        pub rows-readable : RowsReadable (job .header) made ds
+        rows-readable =
+            readable-of done (steps-header job made) k-is digits-are (steps-sound job made job-sound (omega (arith, made-most, job-start .1)))
+
+        pub promise-done : (left : List ℤ) → job .header .n ≤ length given
+            → left ≡ list-from 0 (job .header .n) (reading (radix (job .header .code)) (digits-of ds) made) ++ drop (job .header .n) given
+            → Promise frame list given (record { refusal = 0; row = 0; made = made }) left
+        promise-done left m el =
+            let r = readings-writes done given 0 0 (sym (passes made made-most)) (rw (steps-header job made, le-ltb (length given) (job .header .n) m) refl)
+            left refl (readings-of done given (steps-header job made) k-is digits-are el) in
+            with-made 0 left (promise-accepted done 0 left h run-made (r .0) (r .1))
+
+      pub promise-short : length given < job .header .n → Promise frame list given (record { refusal = 23; row = 0; made = made }) given
+      promise-short m =
+          let r = readings-refuses done given 0 23 (sym (passes made made-most)) (rw (steps-header job made, lt-ltb (length given) (job .header .n) m) refl) (λ q. omega arith) in
+          with-made 23 given (promise-accepted done 23 given h run-made (r .0) (r .1))

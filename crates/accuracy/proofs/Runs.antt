@@ -1,4 +1,5 @@
--- Lists of calls from a fresh job are steps of it: as many as the smaller of the last step and the sum of the budgets. Cited by `Demand3`.
+-- Lists of calls from a fresh job are steps of it: as many as the smaller of the last step and the sum of the budgets. Cited by `Demand3`, and by the
+-- proof of `steps_allowed`.
 use mathlib.Core.Path.{_≡_, refl, sym, ap, _∙_}
 use mathlib.Core.Bool.{cond}
 use mathlib.Core.List.{List, [], _∷_, _++_}
@@ -16,7 +17,6 @@ use Rattle.state.specs.State.{last-step, state-checks}
 use Rattle.state.specs.declared.State.{State}
 use Rattle.evaluator.specs.Evaluator.{steps, least, advanced, advance-checks, steps-made}
 use Rattle.evaluator.proofs.Follow.{steps-header, steps-k, steps-add}
-use Rattle.evaluator.specs.declared.Advanced.{Advanced}
 use Rattle.accuracy.specs.Calls.{Call, advance, readings, state-after, run, budgets, advances}
 
 -- ---- the smaller of two numbers
@@ -96,19 +96,36 @@ module _ (s : State) (start : s .k ≡ 0) (passes : (j : ℕ) → j ≤ last-ste
       (run-is (least (last-step (s .header)) (j + budget)) calls (least-most (last-step (s .header)) (j + budget)))
   run-is j (readings out ∷ calls) h = run-is j calls h
 
--- ---- calls one after the other
+-- ---- a loop over budgets
 
-pub run-append : (s : State) (xs ys : List Call) → run s (xs ++ ys) ≡ run (run s xs) ys
-unfolding run
-run-append s [] ys = refl
-run-append s (c ∷ xs) ys = run-append (state-after s c) xs ys
+budgets-append : (xs ys : List Call) → budgets (xs ++ ys) ≡ budgets xs + budgets ys
+unfolding budgets
+budgets-append [] ys = omega arith
+budgets-append (advance b ∷ xs) ys = omega (arith, budgets-append xs ys)
+budgets-append (readings out ∷ xs) ys = budgets-append xs ys
 
 advances-snoc : (xs : List ℕ) (b : ℕ) → advances (xs ++ (b ∷ [])) ≡ advances xs ++ (advance b ∷ [])
 advances-snoc [] b = refl
 advances-snoc (x ∷ xs) b = rw (advances-snoc xs b)
 
--- a loop over budgets: one more
-pub advance-turn : (s t : State) (u : Advanced) (budgets : List ℕ) (i : ℕ) → i < length budgets → t ≡ run s (advances (take i budgets)) → u ≡ advanced t (getD budgets i 0) → u .state ≡ run s (advances (take (i + 1) budgets))
-unfolding run
-advance-turn s t u budgets i h e f =
-    rw (add-one, take-suc budgets i 0 h, advances-snoc (take i budgets) (getD budgets i 0), run-append s (advances (take i budgets)) (advance (getD budgets i 0) ∷ []), ← e, f)
+budgets-more : (list : List ℕ) (i : ℕ) → i < length list → budgets (advances (take (i + 1) list)) ≡ budgets (advances (take i list)) + getD list i 0
+unfolding budgets
+budgets-more list i h =
+    let e : getD list i 0 + 0 ≡ getD list i 0 = omega arith in
+    rw (add-one, take-suc list i 0 h, advances-snoc (take i list) (getD list i 0))
+    (budgets-append (advances (take i list)) (advance (getD list i 0) ∷ []) ∙ rw e refl)
+
+-- the steps that the first i budgets allow, and those of one more
+pub allowed-none : (last : ℕ) (list : List ℕ) → 0 ≡ least last (budgets (advances (take 0 list)))
+unfolding budgets
+allowed-none last list = sym (least-right last 0 (omega arith))
+
+pub allowed-most : (last made S : ℕ) → made ≡ least last S → made ≤ last
+allowed-most last made S e = omega (arith, e, least-most last S)
+
+pub allowed-more : (last made x : ℕ) (list : List ℕ) (i : ℕ) → i < length list → made ≡ least last (budgets (advances (take i list)))
+    → x ≡ least (getD list i 0) (last - made) → made + x ≡ least last (budgets (advances (take (i + 1) list)))
+allowed-more last made x list i h e f =
+    let S = budgets (advances (take i list)) in
+    rw (f, budgets-more list i h)
+    (least-left-over last (getD list i 0) made (allowed-most last made S e) ∙ rw e (least-again last S (getD list i 0)))

@@ -1,9 +1,10 @@
 // Demand 3 as a promise of running code: one function that loads a frame, makes an advance for each budget of a list, and hands out the readings. What it ensures
 // is the statement `Accurate` of specs/Accuracy.antt for just that list of calls.
 ghost use mathlib.Core.Path.{_≡_};
-ghost use Rattle.accuracy.specs.Calls.{run, advances};
+ghost use Prim.Native.Nat.{_≤_};
+ghost use Rattle.evaluator.specs.Evaluator.{least};
+ghost use Rattle.accuracy.specs.Calls.{budgets, advances};
 ghost use Rattle.accuracy.specs.Promise.{Promise};
-use state::State;
 
 // A refusal number, 0 where there is none, the row given with it, and the steps made.
 pub struct Evaluated {
@@ -12,23 +13,22 @@ pub struct Evaluated {
     pub made: usize,
 }
 
-// The state after an advance for each budget, refused ones among them.
-fn advance_all(s: State, budgets: &[u64]) -> State
-    ensures { λ r. ⌜ r ≡ run s (advances (now (budgets .entry))) ⌝ }
+// How many steps an advance for each budget of the list makes of a fresh job: as many as the budgets allow in all, and at most up to the last step.
+fn steps_allowed(list: &[u64], last: usize) -> usize
+    requires { ⌜ last ≤ 60 ⌝ }
+    ensures { λ r. ⌜ r ≡ least last (budgets (advances (now (list .entry)))) ⌝ }
 {
-    let mut t = s;
+    let mut made: usize = 0;
     let mut i: usize = 0;
-    while i < budgets.len() {
-        let a = evaluator::advance(t, budgets[i]);
-        let u = a.state;
-        t = u;
+    while i < list.len() {
+        made = made + evaluator::least(list[i], (last - made) as u64) as usize;
         i += 1;
     }
-    t
+    made
 }
 
 // Loads a frame, makes an advance for each budget, and writes a reading for each row to `out`. Refused as load is, by 1 to 9, and then as readings are,
-// by 23; a refusal changes no word of `out`.
+// by 23; a refusal changes no word of `out`. The steps of all advances are made at once, and a state that load made is not looked at again.
 pub fn evaluate(frame: &[u8], budgets: &[u64], out: &mut [i64]) -> Evaluated
     ensures { λ r. ⌜ Promise (now (frame .entry)) (now (budgets .entry)) (now (out .entry)) r (now (out .exit)) ⌝ }
 {
@@ -40,13 +40,22 @@ pub fn evaluate(frame: &[u8], budgets: &[u64], out: &mut [i64]) -> Evaluated
             made: 0,
         };
     }
-    let s = l.state;
-    let t = advance_all(s, budgets);
-    let made = t.k;
-    let c = evaluator::readings(t, out);
+    let h = l.state.header;
+    let made = steps_allowed(budgets, h.m);
+    if out.len() < h.n {
+        return Evaluated {
+            refusal: 23,
+            row: 0,
+            made,
+        };
+    }
+    let mut z = l.state.z;
+    let mut digits = l.state.digits;
+    evaluator::make_steps(h, 0, made, &l.state.g, &mut z, &mut digits);
+    evaluator::put_readings(h, made, &digits, out);
     Evaluated {
-        refusal: c,
+        refusal: 0,
         row: 0,
-        made: made,
+        made,
     }
 }

@@ -1,4 +1,4 @@
--- Readings by Horner's rule: a reading of j steps is below r^j, so nothing leaves 64 bits. Cited by the proofs of `reading` and `readings`.
+-- Readings by Horner's rule: a reading of j steps is below r^j, so nothing leaves 64 bits. Cited by the proofs of `reading`, `put_readings` and `readings`.
 use mathlib.Core.Path.{_≡_, refl, ap₂, _∙_}
 use mathlib.Core.List.{List}
 use Prim.Native.Nat.{ℕ, zero, suc, _+_, _*_, _-_, _^_, _<_, _≤_}
@@ -14,11 +14,12 @@ use Rattle.integers.specs.Flat.{entry}
 use Rattle.integers.specs.Machine.{Machine, known, bounded, cast-is, read-i8, read-i64, machine-add, machine-fits, machine-eq}
 use Rattle.job.specs.Header.{digit-bits, radix}
 use Rattle.job.specs.Limits.{radix-least, radix-most, steps-small}
+use Rattle.job.specs.declared.Header.{Header}
 use Rattle.recurrence.specs.Recurrence.{reading}
 use Rattle.state.specs.Digits.{digits-of}
 use Rattle.state.specs.Sound.{Sound}
 use Rattle.state.specs.declared.State.{State}
-use Rattle.evaluator.specs.Readable.{Readable}
+use Rattle.evaluator.specs.Readable.{Readable, RowsReadable}
 
 pub reading-zero : (r : ℕ) (d : ℕ → ℕ → ℤ) (i : ℕ) → reading r d 0 i ≡ pos 0
 unfolding reading
@@ -33,22 +34,22 @@ power a (suc k) = let e : a * suc k ≡ a + a * k = omega arith in rw (pow-succ'
 fewer : (m k w : ℕ) → m * w ≤ 60 → k ≤ m → w * k ≤ 60
 fewer m k w h l = omega (arith, mul-le-mul-left w l)
 
-pub readable : {s : State} → Sound s → (i r : ℕ) → i < s .header .n → r ≡ radix (s .header .code) → Readable (s .digits) i (s .k) r
-readable {s} p i r l e =
+pub sound-readable : {s : State} → Sound s → RowsReadable (s .header) (s .k) (s .digits)
+sound-readable p = record { limits = p .limits; steps = p .steps; made = p .made }
+
+pub readable : {h : Header} {k : ℕ} {ds : List ℤ} → RowsReadable h k ds → (i r : ℕ) → i < h .n → r ≡ radix (h .code) → Readable ds i k r
+readable {h} {k} p i r l e =
     rw e
     (record {
       row = omega (arith, p .limits .order-most);
-      steps = omega (arith, p .steps, steps-small (s .header) (p .limits));
-      radix-least = omega (arith, radix-least (s .header) (p .limits));
-      radix-most = radix-most (s .header) (p .limits);
-      room = rw (power (digit-bits (s .header .code)) (s .k)) (pow-mono (fewer (s .header .m) (s .k) (digit-bits (s .header .code)) (p .limits .steps-most) (p .steps)));
+      steps = omega (arith, p .steps, steps-small h (p .limits));
+      radix-least = omega (arith, radix-least h (p .limits));
+      radix-most = radix-most h (p .limits);
+      room = rw (power (digit-bits (h .code)) k) (pow-mono (fewer (h .m) k (digit-bits (h .code)) (p .limits .steps-most) (p .steps)));
       digits = λ t m. omega (arith, p .made t i m l, p .limits .digit-most);
     })
 
 -- ---- one turn
-
-pub reading-radix : (r q : ℕ) (d : ℕ → ℕ → ℤ) (k i : ℕ) (y : ℤ) → y ≡ reading r d k i → r ≡ q → y ≡ reading q d k i
-reading-radix r q d k i y e f = rw f at e
 
 -- r a + b, where a is below R and b below r, is below r R
 below-next : (r R a b y : ℕ) → a < R → b ≤ r - 1 → 1 ≤ r → y ≤ r * a + b → y < r * R

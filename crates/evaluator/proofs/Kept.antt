@@ -130,7 +130,7 @@ steps-sound s (suc j) p l = step-sound (steps s j) (steps-sound s j p (omega ari
 
 -- ---- a loaded job
 
-fresh-start : (h : Header) (v : List ℤ) → (fresh h v .busy ≡ true) × (fresh h v .k ≡ 0) × (fresh h v .header ≡ h)
+pub fresh-start : (h : Header) (v : List ℤ) → (fresh h v .busy ≡ true) × (fresh h v .k ≡ 0) × (fresh h v .header ≡ h)
 unfolding fresh
 fresh-start h v = (refl, refl, refl)
 

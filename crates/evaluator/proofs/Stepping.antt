@@ -81,6 +81,10 @@ state-is : (a : State) {b : Bool} {h : Header} {k : ℕ} {g z ds : List ℤ} →
     → record { busy = b; header = h; k = k; g = g; z = z; digits = ds } ≡ a
 state-is a eb eh ek eg ez ed = rw (eb, eh, ek, eg, ez, ed) refl
 
+-- a job with no steps made, put together from its parts
+pub fresh-whole : (s : State) → s .busy ≡ true → s .k ≡ 0 → state-of true (s .header) 0 (s .g) (s .z) (s .digits) ≡ s
+fresh-whole s e f = state-is s (sym e) refl (sym f) refl refl refl
+
 -- a busy state put together from its parts
 pub busy-whole : (s : State) → s .busy ≡ true → state-of true (s .header) (s .k) (s .g) (s .z) (s .digits) ≡ s
 busy-whole s e = state-is s (sym e) refl refl refl refl refl

@@ -1,9 +1,12 @@
--- What a row's digits have to keep for its reading to fit 64 bits: each is within r - 1, so the reading of k steps is below r^k. Cited by the contract
--- of `reading`.
+-- What a row's digits have to keep for its reading to fit 64 bits: each is within r - 1, so the reading of k steps is below r^k. Cited by the contracts
+-- of `reading` and `put_readings`.
 use Prim.Native.Nat.{ℕ, _-_, _^_, _<_, _≤_}
 use mathlib.Core.List.{List}
 use lib.IntN.{ℤ, natAbs}
 use Rattle.integers.specs.Flat.{entry}
+use Rattle.job.specs.Limits.{Limits}
+use Rattle.job.specs.declared.Header.{Header}
+use Rattle.state.specs.State.{last-step}
 
 pub record Readable (ds : List ℤ) (i k r : ℕ) : Type 0 where
   pub row : i < 16
@@ -12,3 +15,9 @@ pub record Readable (ds : List ℤ) (i k r : ℕ) : Type 0 where
   pub radix-most : r ≤ 16
   pub room : r ^ k ≤ 2 ^ 60
   pub digits : (t : ℕ) → t < k → natAbs (entry ds t i) ≤ r - 1
+
+-- the same of all rows of a job at step k
+pub record RowsReadable (h : Header) (k : ℕ) (ds : List ℤ) : Type 0 where
+  pub limits : Limits h
+  pub steps : k ≤ last-step h
+  pub made : (t i : ℕ) → t < k → i < h .n → natAbs (entry ds t i) ≤ h .p

@@ -15,11 +15,12 @@
 // proofs/Follow.antt has that the steps are the recurrence's, and proofs/Kept.antt that every state of a loaded job passes 20 and 24.
 ghost use mathlib.Core.Path.{_≡_};
 ghost use mathlib.Core.Bool.{true, cond};
-ghost use mathlib.Core.List.{[], _∷_};
+ghost use mathlib.Core.List.{[], _∷_, _++_};
 ghost use Prim.Native.Nat.{_<_, _≤_};
 ghost use lib.Dec.{ltb, leb};
-ghost use lib.ListN.{length};
-ghost use Rattle.integers.specs.Flat.{flat-vector};
+ghost use lib.ListN.{length, drop};
+ghost use Rattle.integers.specs.Flat.{flat-vector, list-from};
+ghost use Rattle.job.specs.Header.{radix};
 ghost use Rattle.job.specs.Refusal.{first-refusal};
 ghost use Rattle.recurrence.specs.Flat.{Vector};
 ghost use Rattle.recurrence.specs.Recurrence.{reading};
@@ -36,7 +37,7 @@ ghost use Rattle.evaluator.specs.Evaluator.{
   readings-refusal,
   readings-list,
 };
-ghost use Rattle.evaluator.specs.Readable.{Readable};
+ghost use Rattle.evaluator.specs.Readable.{Readable, RowsReadable};
 ghost use Rattle.evaluator.specs.Steppable.{Steppable};
 use job::Header;
 use state::State;
@@ -150,7 +151,7 @@ fn advance_refusal(bad: usize, budget: u64, k: usize, last: usize) -> usize
 }
 
 // The smaller of two numbers.
-fn least(a: u64, b: u64) -> u64
+pub fn least(a: u64, b: u64) -> u64
     ensures { λ r. ⌜ r ≡ least a b ⌝ }
 {
     if a <= b { a } else { b }
@@ -234,8 +235,8 @@ fn table_pays(g: &[i64; 256], n: usize, p: usize, made: usize) -> bool
     g[16 + (n - 1)] != 0
 }
 
-// Makes the steps, in the way that is likely to be the faster one.
-fn make_steps(
+// Makes the steps, in the way that is likely to be the faster one. Public, as `put_readings` is, for callers that know their state to pass 24.
+pub fn make_steps(
     h: Header,
     k: usize,
     made: usize,
@@ -308,23 +309,30 @@ fn readings_refusal(bad: usize, room: usize, n: usize) -> usize
     0
 }
 
+// Puts the readings at step k, one a row, into the list; the words past the n-th stay.
+pub fn put_readings(h: Header, k: usize, digits: &[i8; 960], out: &mut [i64])
+    requires { ⌜ RowsReadable h k (now digits) × (h .n ≤ length (now out)) ⌝ }
+    ensures { λ _. ⌜ now (out .exit) ≡ list-from 0 (h .n) (reading (radix (h .code)) (digits-of (now (digits .entry))) k) ++ drop (h .n) (now (out .entry)) ⌝ }
+{
+    let n = h.n;
+    let r = job::radix(h.code);
+    let mut i: usize = 0;
+    while i < n {
+        out[i] = reading(digits, i, k, r);
+        i += 1;
+    }
+}
+
 // The readings at the steps made, one a row.
 pub fn readings(s: State, out: &mut [i64]) -> usize
     ensures answer { λ r. ⌜ r ≡ readings-refusal s (length (now (out .entry))) ⌝ }
     ensures list { λ r. ⌜ now (out .exit) ≡ readings-list s (now (out .entry)) ⌝ }
 {
     let h = s.header;
-    let k = s.k;
-    let n = h.n;
-    let bad = state::check(s.busy, h, k, &s.g, &s.z, &s.digits);
-    let answer = readings_refusal(bad, out.len(), n);
+    let bad = state::check(s.busy, h, s.k, &s.g, &s.z, &s.digits);
+    let answer = readings_refusal(bad, out.len(), h.n);
     if answer == 0 {
-        let r = job::radix(h.code);
-        let mut i: usize = 0;
-        while i < n {
-            out[i] = reading(&s.digits, i, k, r);
-            i += 1;
-        }
+        put_readings(h, s.k, &s.digits, out);
     }
     answer
 }

@@ -1,6 +1,7 @@
 -- The answer and the list are those of the calls, of which demand 3 holds.
+use native.Mathlib.Omega.{arith}
+use Rattle.accuracy.proofs.Promised.{promise-refused, last-small, steppable, rows-readable, promise-short, promise-done}
 use borrow.Author.Needs.{needs}
-use Rattle.accuracy.proofs.Promised.{promise-refused, promise-accepted}
 use Rattle.accuracy.proofs.evaluate.Statement.{statement}
 use Rattle.accuracy.proofs.evaluate.Tie as tie
 
@@ -9,29 +10,62 @@ load-requires c κs = search needs
 
 returns : tie.Need-returns
 returns c =
-    let a = c .before .before .before .before .before .args in
-    let l = c .before .before .load in
-    promise-refused (a .frame .now) (a .budgets .now) (a .out .now) (l .result) (l .ensures) (c .if1 .taken)
+    let l = c .before in
+    let a = l .before .before .before .args in
+    promise-refused (a .frame .now) (a .budgets .now) (a .out .now) (l .load .result) (l .load .ensures) (c .if1 .taken)
 
-advance-all-requires : tie.Need-advance-all-requires
-advance-all-requires c κs = search needs
+steps-allowed-requires : tie.Need-steps-allowed-requires
+steps-allowed-requires c κs =
+    let e = c .before in
+    let l = e .before in
+    let a = l .before .before .before .args in
+    last-small (a .frame .now) (a .budgets .now) (a .out .now) (l .load .result) (l .load .ensures) (e .if1 .left)
 
-readings-requires : tie.Need-readings-requires
-readings-requires c κs = search needs
+returns-2 : tie.Need-returns-2
+returns-2 c =
+    let m = c .before .before in
+    let e = m .before .before in
+    let l = e .before in
+    let a = l .before .before .before .args in
+    promise-short (a .frame .now) (a .budgets .now) (a .out .now) (l .load .result) (l .load .ensures) (e .if1 .left) (m .steps-allowed .result) (m .steps-allowed .ensures) (c .if2 .taken)
+
+make-steps-requires : tie.Need-make-steps-requires
+make-steps-requires c κs =
+    let m = c .before .before .before .before .before .before .before .before in
+    let e = m .before .before in
+    let l = e .before in
+    let a = l .before .before .before .args in
+    steppable (a .frame .now) (a .budgets .now) (a .out .now) (l .load .result) (l .load .ensures) (e .if1 .left) (m .steps-allowed .result) (m .steps-allowed .ensures)
+
+put-readings-requires : tie.Need-put-readings-requires
+put-readings-requires c κs =
+    let m = c .before .before .before .before .before .before .before .before .before .before .before in
+    let e = m .before .before in
+    let l = e .before in
+    let a = l .before .before .before .args in
+    (rows-readable (a .frame .now) (a .budgets .now) (a .out .now) (l .load .result) (l .load .ensures) (e .if1 .left) (m .steps-allowed .result) (m .steps-allowed .ensures) _ (c .before .before .make-steps .ensures .1), c .before .before .before .before .before .before .before .before .before .if2 .left)
 
 same-length : tie.Need-same-length
 same-length c = search needs
 
-returns-2 : tie.Need-returns-2
-returns-2 c =
-    let b = c .before .before .before in
-    let e = b .before .before in
-    let l = e .before .before in
+returns-3 : tie.Need-returns-3
+returns-3 c =
+    let m = c .before .before .before .before .before .before .before .before .before .before .before .before .before in
+    let e = m .before .before in
+    let l = e .before in
     let a = l .before .before .before .args in
-    promise-accepted (a .frame .now) (a .budgets .now) (a .out .now) (l .load .result) (l .load .ensures) (b .advance-all .result) (c .before .readings .result)
-    (c .before .readings .last .1 .0) (e .if1 .left) (b .advance-all .ensures) (c .before .readings .ensures .0) (c .before .readings .ensures .1)
+    let q = c .before in
+    promise-done (a .frame .now) (a .budgets .now) (a .out .now) (l .load .result) (l .load .ensures) (e .if1 .left) (m .steps-allowed .result) (m .steps-allowed .ensures) _ (q .before .before .before .make-steps .ensures .1) _ (c .before .before .before .before .before .before .before .before .before .before .before .if2 .left) (q .put-readings .ensures)
 
 pub evaluate-spec : {M : Type 1} → statement M
 evaluate-spec =
     tie.close
-    (tie.spec load-requires returns advance-all-requires readings-requires same-length returns-2)
+    (tie.spec
+    load-requires
+    returns
+    steps-allowed-requires
+    returns-2
+    make-steps-requires
+    put-readings-requires
+    same-length
+    returns-3)
