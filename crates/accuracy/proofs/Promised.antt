@@ -18,7 +18,7 @@ use Rattle.state.specs.Digits.{digits-of}
 use Rattle.state.specs.Sound.{Sound, state-of}
 use Rattle.state.specs.State.{last-step, fresh, state-checks}
 use Rattle.state.specs.declared.State.{State}
-use Rattle.evaluator.specs.Evaluator.{loaded, steps, least, state-reading, list-too-short, readings-refusal, readings-list}
+use Rattle.evaluator.specs.Evaluator.{loaded, steps, least, state-reading, readings-refusal, readings-list}
 use Rattle.evaluator.specs.declared.Loaded.{Loaded}
 use Rattle.evaluator.specs.Steppable.{Steppable}
 use Rattle.evaluator.proofs.Kept.{fresh-start, loaded-sound, loaded-passes, steps-sound}

@@ -17,7 +17,7 @@ use Rattle.state.specs.State.{last-step, state-checks}
 use Rattle.state.specs.declared.State.{State}
 use Rattle.evaluator.specs.Evaluator.{steps, least, advanced, advance-checks, steps-made}
 use Rattle.evaluator.proofs.Follow.{steps-header, steps-k, steps-add}
-use Rattle.accuracy.specs.Calls.{Call, advance, readings, state-after, run, budgets, advances}
+use Rattle.accuracy.specs.Calls.{Call, advance, readings, run, budgets, advances}
 
 -- ---- the smaller of two numbers
 

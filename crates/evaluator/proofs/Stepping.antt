@@ -1,6 +1,6 @@
 -- A loop over steps: a state's arrays after j of its steps, and one turn of the loop. Cited by the proofs of `run_by_rows`, `run_by_columns` and
 -- `advance`.
-use mathlib.Core.Path.{_≡_, refl, sym, ap, _∙_}
+use mathlib.Core.Path.{_≡_, refl, sym, _∙_}
 use mathlib.Core.List.{List}
 use mathlib.Core.Logic.{_⊎_, inl, inr}
 use mathlib.Core.Bool.{Bool, true, cond}

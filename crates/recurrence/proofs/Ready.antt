@@ -2,12 +2,12 @@
 -- functions that make several steps.
 use mathlib.Core.Path.{_≡_}
 use mathlib.Core.List.{List}
-use Prim.Native.Nat.{ℕ, _+_, _*_, _^_, _<_, _≤_}
+use Prim.Native.Nat.{ℕ, _^_, _<_, _≤_}
 use native.Mathlib.Omega.{arith}
 use lib.IntN.{ℤ, natAbs}
 use lib.Pow.{pow-pos}
 use Rattle.integers.specs.Flat.{at, entry}
-use Rattle.integers.specs.Product.{dot, weight, abs-dot, entry-le-weight}
+use Rattle.integers.specs.Product.{weight, abs-dot, entry-le-weight}
 use Rattle.recurrence.specs.Recurrence.{shifted}
 use Rattle.recurrence.specs.Row.{light-less}
 use Rattle.recurrence.specs.Theorems.{bound}

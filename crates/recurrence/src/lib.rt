@@ -89,7 +89,7 @@ fn first_entry(g: &[i64; 256], i: usize, n: usize) -> usize
     lo
 }
 
-// The column after the last one in which row i has an entry other than 0; column 0 is not looked at.
+// The column after the last one past column 0 in which row i has an entry other than 0, or 1 where there is none.
 fn past_entry(g: &[i64; 256], i: usize, n: usize) -> usize
     requires { ⌜ (i < 16) × (n ≤ 16) ⌝ }
     ensures { λ hi. ⌜ End n (now (g .entry)) i hi ⌝ }
@@ -178,7 +178,8 @@ fn cell(g: &[i64; 256], n: usize, e: usize) -> i64
     }
 }
 
-// With digits -1, 0 and 1 a product needs no multiplication: in three blocks, the entries' negatives, zeros and the entries, column after column.
+// The table of products for the digits -1, 0 and 1, which need no multiplication: three blocks, the entries' negatives, zeros and the entries, each
+// column after column.
 pub fn products(g: &[i64; 256], n: usize) -> [i64; 768]
     requires { ⌜ (n ≤ 16) × RowsSmall n (now g) ⌝ }
     ensures { λ t. ⌜ Products n (now (g .entry)) t ⌝ }

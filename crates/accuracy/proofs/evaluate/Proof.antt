@@ -1,5 +1,4 @@
 -- The answer and the list are those of the calls, of which demand 3 holds.
-use native.Mathlib.Omega.{arith}
 use Rattle.accuracy.proofs.Promised.{promise-refused, last-small, steppable, rows-readable, promise-short, promise-done}
 use borrow.Author.Needs.{needs}
 use Rattle.accuracy.proofs.evaluate.Statement.{statement}

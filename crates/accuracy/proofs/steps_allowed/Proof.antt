@@ -1,5 +1,5 @@
 -- The invariant: `made` are the steps that the first i budgets allow. The measure is what is left of the list.
-use mathlib.Core.Path.{_≡_, _∙_}
+use mathlib.Core.Path.{_≡_}
 use Prim.Native.Nat.{_+_, _-_, _≤_}
 use native.Mathlib.Omega.{arith}
 use lib.ListN.{length, take}

@@ -1,5 +1,5 @@
 -- Past row n the entry is 0.
-use mathlib.Core.Path.{_≡_, refl}
+use mathlib.Core.Path.{refl}
 use borrow.Author.Tests.{lt-ltb, le-ltb}
 use Rattle.recurrence.proofs.Spans.{read-back}
 use borrow.Author.Needs.{needs}

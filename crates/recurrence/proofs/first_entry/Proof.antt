@@ -1,5 +1,4 @@
 -- The invariant: past column 0 the row has no entry other than 0 before column lo. The measure is what is left of the columns.
-use mathlib.Core.Path.{_≡_}
 use Prim.Native.Nat.{_-_, _≤_}
 use native.Mathlib.Omega.{arith}
 use Rattle.integers.specs.Flat.{entry}

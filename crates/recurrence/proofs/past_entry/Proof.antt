@@ -1,5 +1,4 @@
 -- The invariant: the row has no entry other than 0 from column hi on. The measure is hi.
-use mathlib.Core.Path.{_≡_}
 use Prim.Native.Nat.{_-_, _≤_}
 use native.Mathlib.Omega.{arith}
 use Rattle.integers.specs.Flat.{entry}

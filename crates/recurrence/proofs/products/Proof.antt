@@ -1,5 +1,5 @@
 -- The invariant: the cells below e stand in the table. The measure is what is left of the cells.
-use mathlib.Core.Path.{_≡_, refl}
+use mathlib.Core.Path.{_≡_}
 use Prim.Native.Nat.{_*_, _-_, _≤_}
 use native.Mathlib.Omega.{arith}
 use Rattle.recurrence.proofs.Table.{Begun, begun-none, begun-next, negative-fits, negative-is, cell-kept, products-filled}
