@@ -1,4 +1,4 @@
--- What `evaluate` of src/lib.rt ensures: its answer and every word of its list are the definitions', and demand 3 holds of the very calls that it makes.
+-- What `evaluate` of src/lib.rt ensures: its answer and every word of its list are the definitions', and demand 3 holds of the calls that it stands for.
 use mathlib.Core.Path.{_≡_}
 use mathlib.Core.List.{List, [], _∷_, _++_}
 use Prim.Native.Nat.{ℕ, _<_}

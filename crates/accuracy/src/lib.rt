@@ -1,5 +1,5 @@
-// Demand 3 as a promise of running code: one function that loads a frame, makes an advance for each budget of a list, and hands out the readings. What it ensures
-// is the statement `Accurate` of specs/Accuracy.antt for just that list of calls.
+// Demand 3 as a promise of running code: one function that gives what a load, an advance for each budget of a list, and readings give. What it ensures is
+// the statement `Accurate` of specs/Accuracy.antt for just that list of calls, which it need not make one by one.
 ghost use mathlib.Core.Path.{_≡_};
 ghost use Prim.Native.Nat.{_≤_};
 ghost use Rattle.evaluator.specs.Evaluator.{least};
@@ -27,7 +27,7 @@ fn steps_allowed(list: &[u64], last: usize) -> usize
     made
 }
 
-// Loads a frame, makes an advance for each budget, and writes a reading for each row to `out`. Refused as load is, by 1 to 9, and then as readings are,
+// Loads a frame, makes the steps that an advance for each budget makes, and writes a reading for each row to `out`. Refused as load is, by 1 to 9, and then as readings are,
 // by 23; a refusal changes no word of `out`. The steps of all advances are made at once, and a state that load made is not looked at again.
 pub fn evaluate(frame: &[u8], budgets: &[u64], out: &mut [i64]) -> Evaluated
     ensures { λ r. ⌜ Promise (now (frame .entry)) (now (budgets .entry)) (now (out .entry)) r (now (out .exit)) ⌝ }
