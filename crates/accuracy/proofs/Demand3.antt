@@ -10,24 +10,25 @@ use lib.ListN.{length, drop, List·getD-append}
 use Rattle.integers.specs.Flat.{at, list-from, length-list-from, getD-list-from}
 use Rattle.integers.specs.Product.{dot, weight, dot-ext}
 use Rattle.job.specs.Header.{radix, unit}
-use Rattle.job.specs.Limits.{Limits, radix-least, unit-least, digit-positive, steps-small}
-use Rattle.job.specs.Rows.{light-enough}
-use Rattle.job.specs.System.{matrix, right-side, matrix-of, right-side-of, argument, numerator, denominator-of}
+use Rattle.job.specs.Kind.{kind-of}
+use Rattle.job.specs.Limits.{Limits, radix-least, unit-least, inner-least, digit-positive, last-small}
+use Rattle.job.specs.Rules.{last-step, inner-unit, bound-over, bound-under}
+use Rattle.job.specs.System.{matrix-of, right-side-of}
 use Rattle.job.specs.declared.Header.{Header}
 use Rattle.frame.specs.Frame.{frame-refusal, header-of, frame-numbers}
 use Rattle.frame.specs.Theorems.{accepted-frame}
 use Rattle.frame.specs.Valid.{Valid}
 use Rattle.recurrence.specs.Selection.{select}
-use Rattle.recurrence.specs.Light.{Light, LightRows, light-half}
+use Rattle.recurrence.specs.Light.{LightRows}
 use Rattle.recurrence.specs.Recurrence.{reading, steps-run}
 use Rattle.recurrence.specs.Theorems.{identity, select-distance, short}
-use Rattle.curve.specs.Curve.{CurveValue, numerator-value, denominator-value}
-use Rattle.curve.specs.Value.{curve-value}
+use Rattle.curve.specs.Value.{kind-value}
 use Rattle.state.specs.Digits.{digits-of}
-use Rattle.state.specs.State.{last-step, fresh}
+use Rattle.state.specs.State.{fresh}
 use Rattle.state.specs.declared.State.{State}
 use Rattle.evaluator.specs.Evaluator.{loaded, steps, least, job-digit, job-residual, state-reading, readings-list, readings-refusal}
-use Rattle.evaluator.proofs.Kept.{loaded-passes}
+use Rattle.state.proofs.Sound.{start-kept}
+use Rattle.evaluator.proofs.Kept.{light-row, loaded-passes}
 use Rattle.evaluator.proofs.Theorems.{refused-readings}
 use Rattle.evaluator.proofs.Follow.{Follows, steps-header, steps-k, fresh-follows, follows-steps}
 use Rattle.accuracy.specs.Calls.{Call, budgets}
@@ -41,19 +42,6 @@ reading-ext : (r : ℕ) (c d : ℕ → ℕ → ℤ) (k i : ℕ) → ((j : ℕ) �
 unfolding reading
 reading-ext r c d zero i h = refl
 reading-ext r c d (suc k) i h = rw (reading-ext r c d k i (λ j a b. h j a (omega arith)), h (suc k) (omega arith) (omega arith))
-
--- a light row, as the recurrence has it
-light-row : (h : Header) (S : ℕ) → Limits h → light-enough h S ≡ true → Light (radix (h .code)) (h .p) (unit h) 1 2 S
-light-row h S l e =
-    light-half (radix (h .code)) (h .p) (unit h) S (omega (arith, radix-least h l)) (omega (arith, l .digit-least)) .1 (leb-true _ _ e)
-
--- the exact value of a curve of either kind
-curve-of : (kind n u : ℕ) (v : List ℤ) → kind ≤ 1 → 0 < u → 0 < n → ((i : ℕ) → i < n → 4 * weight n (matrix kind n u v i) ≤ u) →
-    CurveValue n u (matrix kind n u v) (right-side kind n v) (numerator-value u (argument v) (numerator v) n) (denominator-value u (argument v) (denominator-of kind n v) n)
-unfolding matrix right-side
-curve-of zero n u v k hu hn s = curve-value u (argument v) (numerator v) (denominator-of 0 n v) n hu hn s
-curve-of (suc zero) n u v k hu hn s = curve-value u (argument v) (numerator v) (denominator-of 1 n v) n hu hn s
-curve-of (suc (suc kind)) n u v k hu hn s = absurd (omega arith)
 
 -- what a state that follows the recurrence holds, by its header and its steps
 module _ (G : ℕ → ℕ → ℤ) (B : ℕ → ℤ) (t : State) (h : Header) (k : ℕ) (e : t .header ≡ h) (f : t .k ≡ k) (holds : Follows G B t) where
@@ -126,8 +114,8 @@ module _ (frame : List ℕ) (ok : frame-refusal frame ≡ 0) where
       let e : 0 + budgets calls ≡ budgets calls = omega arith in
       rw (loaded-is, ← e) (run-is (fresh h v) refl (loaded-passes frame ok) 0 calls (omega arith))
 
-  rows : LightRows n r (h .p) (unit h) 1 2 G
-  rows = record { rows = λ i l. light-row h (weight n (G i)) limits (accepted .light i l) }
+  rows : LightRows n r (h .p) (inner-unit h) bound-over bound-under G
+  rows = record { rows = λ i l. light-row limits (accepted .light i l) }
 
   -- what the j-th state holds
   module _ (j : ℕ) (few-j : j ≤ last-step h) where
@@ -141,11 +129,11 @@ module _ (frame : List ℕ) (ok : frame-refusal frame ≡ 0) where
 
     holds : Follows G B (at-step j)
     unfolding fresh
-    holds = follows-steps G B (fresh h v) j (limits .order-most) (omega (arith, steps-small h limits)) (fresh-follows h v (limits .order-most))
+    holds = follows-steps G B (fresh h v) j (limits .order-most) (omega (arith, last-small h limits)) (fresh-follows h v (limits .order-most))
 
     -- the identity, of the state's own digits and residuals
     state-identity : (i : ℕ) → i < n →
-        pos (r ^ j) *ℤ B i -ℤ (pos (unit h) *ℤ reading r (digits-of (at-step j .digits)) j i -ℤ dot n (G i) (reading r (digits-of (at-step j .digits)) j)) ≡ at (at-step j .z) i +ℤ dot n (G i) (digits-of (at-step j .digits) j)
+        pos (r ^ j) *ℤ B i -ℤ (pos (inner-unit h) *ℤ reading r (digits-of (at-step j .digits)) j i -ℤ dot n (G i) (reading r (digits-of (at-step j .digits)) j)) ≡ at (at-step j .z) i +ℤ dot n (G i) (digits-of (at-step j .digits) j)
     state-identity i l =
         rw (
           held-residuals G B (at-step j) h j header-is k-is holds i l,
@@ -153,7 +141,7 @@ module _ (frame : List ℕ) (ok : frame-refusal frame ≡ 0) where
           dot-ext n (G i) (G i) (reading r (digits-of (at-step j .digits)) j) (reading r (job-digit h G B) j) (λ m a. refl) (λ m a. held-reading G B (at-step j) h j header-is k-is holds j m (omega arith) a),
           dot-ext n (G i) (G i) (digits-of (at-step j .digits) j) (job-digit h G B j) (λ m a. refl) (λ m a. held-digits G B (at-step j) h j header-is k-is holds j m (omega arith) a),
         )
-        (identity (steps-run n r (unit h) (select (h .p) (unit h)) G B) j i l)
+        (identity (steps-run n r (inner-unit h) (select (h .p) (inner-unit h)) G B) j i l)
 
   -- the whole statement of the j-th state
   pub accurate : (calls : List Call) → Accurate frame calls
@@ -165,9 +153,9 @@ module _ (frame : List ℕ) (ok : frame-refusal frame ≡ 0) where
         digits = λ t i a b c. rw (run-to calls) (held-digits G B (at-step j) h j (header-is j few-j) (k-is j few-j) (holds j few-j) t i (rw (run-to calls, k-is j few-j) at b) c);
         later-digits = λ t i a b c. rw (run-to calls) (held-later G B (at-step j) h j (header-is j few-j) (k-is j few-j) (holds j few-j) t i (rw (run-to calls, k-is j few-j) at a) b c);
         near = λ k a N D d exact i c. rw (run-to calls, held-reading G B (at-step j) h j (header-is j few-j) (k-is j few-j) (holds j few-j) k i (rw (run-to calls, k-is j few-j) at a) c)
-            (select-distance (omega (arith, radix-least h limits)) (omega (arith, unit-least h limits)) rows (λ i l. leb-true _ _ (accepted .small i l)) exact k i c);
-        curve = λ a. curve-of (h .kind) n (unit h) v a (omega (arith, unit-least h limits)) (limits .order-least)
-            (λ i l. short r (h .p) (unit h) (weight n (G i)) (radix-least h limits) (digit-positive h limits) (limits .digit-most) (rows .rows i l));
+            (select-distance (omega (arith, radix-least h limits)) (omega (arith, inner-least h limits)) rows (λ i l. start-kept h (B i) (accepted .small i l)) exact k i c);
+        curve = λ a. kind-value (kind-of (h .kind)) n (unit h) v a (omega (arith, unit-least h limits)) (limits .order-least)
+            (λ i l. short r (h .p) (unit h) bound-over bound-under (weight n (G i)) (radix-least h limits) (digit-positive h limits) (limits .digit-most) (omega arith) (omega arith) (rows .rows i l));
         handed-out = λ before rest out e a i c.
             let b : ℕ = least (last-step h) (budgets before) in
             let few-b : b ≤ last-step h = least-most (last-step h) (budgets before) in

@@ -49,7 +49,7 @@ unfolding frame-A field number bits run decode numerator-value denominator-value
 case-A N D exact = rw reading-A (cancel {d = pos 16} (omega zarith) (first (N 0) (pos D) (value N D exact)))
   where
     value : (N : ℕ → ℤ) (D : ℕ) → ExactValues frame-A N D → pos 256 *ℤ N 0 ≡ pos 80 *ℤ pos D
-    value N D exact = accurate frame-A accepted-A calls-A .curve (omega arith) .value N D exact
+    value N D exact = accurate frame-A accepted-A calls-A .curve refl .value N D exact
 
     first : (x d : ℤ) → pos 256 *ℤ x ≡ pos 80 *ℤ d → pos 16 *ℤ (pos 16 *ℤ x) ≡ pos 16 *ℤ (d *ℤ pos 5)
     first x d e =
@@ -81,7 +81,7 @@ unfolding frame-B field number bits run decode numerator-value denominator-value
 case-B N D h exact = (cancel {d = pos 8} (omega zarith) (first (N 0) (pos D) (value N D exact)), near)
   where
     value : (N : ℕ → ℤ) (D : ℕ) → ExactValues frame-B N D → pos 264 *ℤ N 0 ≡ pos 128 *ℤ pos D
-    value N D exact = accurate frame-B accepted-B calls-B .curve (omega arith) .value N D exact
+    value N D exact = accurate frame-B accepted-B calls-B .curve refl .value N D exact
 
     first : (x d : ℤ) → pos 264 *ℤ x ≡ pos 128 *ℤ d → pos 8 *ℤ (pos 33 *ℤ x) ≡ pos 8 *ℤ (pos 16 *ℤ d)
     first x d e =

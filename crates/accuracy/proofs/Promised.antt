@@ -9,14 +9,14 @@ use lib.IntN.{ℤ}
 use lib.ListN.{length, drop}
 use Rattle.integers.specs.Flat.{list-from}
 use Rattle.job.specs.Header.{radix}
-use Rattle.job.specs.Limits.{steps-small}
+use Rattle.job.specs.Limits as limits
 use Rattle.job.specs.Refusal.{first-refusal}
 use Rattle.job.specs.declared.Header.{Header}
 use Rattle.frame.specs.Frame.{frame-refusal, header-of, frame-numbers}
 use Rattle.recurrence.specs.Recurrence.{reading}
 use Rattle.state.specs.Digits.{digits-of}
 use Rattle.state.specs.Sound.{Sound, state-of}
-use Rattle.state.specs.State.{last-step, fresh, state-checks}
+use Rattle.state.specs.State.{fresh, state-checks, state-last}
 use Rattle.state.specs.declared.State.{State}
 use Rattle.evaluator.specs.Evaluator.{loaded, steps, least, state-reading, readings-refusal, readings-list}
 use Rattle.evaluator.specs.declared.Loaded.{Loaded}
@@ -85,16 +85,16 @@ module _ (frame list : List ℕ) (given : List ℤ) (l : Loaded) (e : l ≡ load
     job-sound : Sound job
     job-sound = rw job-is (loaded-sound frame ok)
 
-    pub last-small : last-step (job .header) ≤ 60
-    last-small = steps-small (job .header) (job-sound .limits)
+    pub last-small : state-last job ≤ 60
+    last-small = limits.last-small (job .header) (job-sound .limits)
 
-    passes : (j : ℕ) → j ≤ last-step (job .header) → first-refusal (state-checks (steps job j)) ≡ 0
+    passes : (j : ℕ) → j ≤ state-last job → first-refusal (state-checks (steps job j)) ≡ 0
     passes j m = rw job-is (loaded-passes frame ok j (rw (job-start .2) at m))
 
     -- the steps that the budgets allow
-    module _ (made : ℕ) (em : made ≡ least (last-step (job .header)) (budgets (advances list))) where
-      made-most : made ≤ last-step (job .header)
-      made-most = allowed-most (last-step (job .header)) made (budgets (advances list)) em
+    module _ (made : ℕ) (em : made ≡ least (state-last job) (budgets (advances list))) where
+      made-most : made ≤ state-last job
+      made-most = allowed-most (state-last job) made (budgets (advances list)) em
 
       abbrev done : State
       done = steps job made
@@ -103,7 +103,7 @@ module _ (frame list : List ℕ) (given : List ℤ) (l : Loaded) (e : l ≡ load
       unfolding steps
       run-made =
           let z : 0 + budgets (advances list) ≡ budgets (advances list) = omega arith in
-          ap (steps job) (em ∙ ap (least (last-step (job .header))) (sym z)) ∙ sym (run-is job (job-start .1) passes 0 (advances list) (omega arith))
+          ap (steps job) (em ∙ ap (least (state-last job)) (sym z)) ∙ sym (run-is job (job-start .1) passes 0 (advances list) (omega arith))
 
       k-is : done .k ≡ made
       k-is = omega (arith, steps-k job made, job-start .1)

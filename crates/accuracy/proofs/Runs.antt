@@ -12,8 +12,9 @@ use lib.ListN.{length, take, getD}
 use lib.Seq.{take-suc}
 use native.Mathlib.Numerals.{add-one}
 use Rattle.integers.specs.Maximum.{le-or-lt}
+use Rattle.job.specs.Rules.{last-step}
 use Rattle.job.specs.Refusal.{first-refusal, accepted-before}
-use Rattle.state.specs.State.{last-step, state-checks}
+use Rattle.state.specs.State.{state-checks, state-last}
 use Rattle.state.specs.declared.State.{State}
 use Rattle.evaluator.specs.Evaluator.{steps, least, advanced, advance-checks, steps-made}
 use Rattle.evaluator.proofs.Follow.{steps-header, steps-k, steps-add}
@@ -56,44 +57,44 @@ least-left-over a b j h = by-case (le-or-lt b (a - j))
 
 -- ---- one advance of a state that passes 20 and 24
 
-module _ (s : State) (passes : first-refusal (state-checks s) ≡ 0) (room : s .k ≤ last-step (s .header)) where
+module _ (s : State) (passes : first-refusal (state-checks s) ≡ 0) (room : s .k ≤ state-last s) where
   -- the growth of k: up to the last step
-  pub made-is : (budget : ℕ) → s .k + steps-made s budget ≡ least (last-step (s .header)) (s .k + budget)
+  pub made-is : (budget : ℕ) → s .k + steps-made s budget ≡ least (state-last s) (s .k + budget)
   unfolding steps-made advance-checks
   made-is zero =
       rw (accepted-before (state-checks s) _ tt passes)
-      (let e : s .k + 0 ≡ s .k = omega arith in rw e (sym (least-right (last-step (s .header)) (s .k) room)))
-  made-is (suc b) = rw (accepted-before (state-checks s) _ tt passes, eqb·suc-zero b) (by-case (le-or-lt (last-step (s .header)) (s .k)))
+      (let e : s .k + 0 ≡ s .k = omega arith in rw e (sym (least-right (state-last s) (s .k) room)))
+  made-is (suc b) = rw (accepted-before (state-checks s) _ tt passes, eqb·suc-zero b) (by-case (le-or-lt (state-last s) (s .k)))
     where
-      by-case : (last-step (s .header) ≤ s .k) ⊎ (s .k < last-step (s .header)) → s .k + cond (eqb (cond (leb (last-step (s .header)) (s .k)) 21 0) 0) (least (suc b) (last-step (s .header) - s .k)) 0 ≡ least (last-step (s .header)) (s .k + suc b)
+      by-case : (state-last s ≤ s .k) ⊎ (s .k < state-last s) → s .k + cond (eqb (cond (leb (state-last s) (s .k)) 21 0) 0) (least (suc b) (state-last s - s .k)) 0 ≡ least (state-last s) (s .k + suc b)
       by-case (inl l) =
-          rw (le-leb (last-step (s .header)) (s .k) l)
-          (let e : s .k + 0 ≡ last-step (s .header) = omega arith in e ∙ sym (least-left (last-step (s .header)) (s .k + suc b) (omega arith)))
-      by-case (inr l) = rw (lt-leb (last-step (s .header)) (s .k) l) (least-left-over (last-step (s .header)) (suc b) (s .k) room)
+          rw (le-leb (state-last s) (s .k) l)
+          (let e : s .k + 0 ≡ state-last s = omega arith in e ∙ sym (least-left (state-last s) (s .k + suc b) (omega arith)))
+      by-case (inr l) = rw (lt-leb (state-last s) (s .k) l) (least-left-over (state-last s) (suc b) (s .k) room)
 
-made-from : (t : State) (j l budget : ℕ) → t .k ≡ j → last-step (t .header) ≡ l → first-refusal (state-checks t) ≡ 0 → j ≤ l → j + steps-made t budget ≡ least l (j + budget)
+made-from : (t : State) (j l budget : ℕ) → t .k ≡ j → state-last t ≡ l → first-refusal (state-checks t) ≡ 0 → j ≤ l → j + steps-made t budget ≡ least l (j + budget)
 made-from t j l budget e f passes h = rw (← e, ← f) (made-is t passes (rw (e, f) h) budget)
 
 -- ---- every list of calls
 
-module _ (s : State) (start : s .k ≡ 0) (passes : (j : ℕ) → j ≤ last-step (s .header) → first-refusal (state-checks (steps s j)) ≡ 0) where
+module _ (s : State) (start : s .k ≡ 0) (passes : (j : ℕ) → j ≤ state-last s → first-refusal (state-checks (steps s j)) ≡ 0) where
   made : (j : ℕ) → steps s j .k ≡ j
   made j = omega (arith, steps-k s j)
 
-  advance-is : (j budget : ℕ) → j ≤ last-step (s .header) → advanced (steps s j) budget .state ≡ steps s (least (last-step (s .header)) (j + budget))
+  advance-is : (j budget : ℕ) → j ≤ state-last s → advanced (steps s j) budget .state ≡ steps s (least (state-last s) (j + budget))
   unfolding advanced
   advance-is j budget h =
-      let e : j + steps-made (steps s j) budget ≡ least (last-step (s .header)) (j + budget) =
-      made-from (steps s j) j (last-step (s .header)) budget (made j) (ap last-step (steps-header s j)) (passes j h) h in
+      let e : j + steps-made (steps s j) budget ≡ least (state-last s) (j + budget) =
+      made-from (steps s j) j (state-last s) budget (made j) (ap last-step (steps-header s j)) (passes j h) h in
       sym (steps-add s j (steps-made (steps s j) budget)) ∙ rw e
 
-  pub run-is : (j : ℕ) (calls : List Call) → j ≤ last-step (s .header) → run (steps s j) calls ≡ steps s (least (last-step (s .header)) (j + budgets calls))
+  pub run-is : (j : ℕ) (calls : List Call) → j ≤ state-last s → run (steps s j) calls ≡ steps s (least (state-last s) (j + budgets calls))
   unfolding run budgets
-  run-is j [] h = let e : j + 0 ≡ j = omega arith in rw (e, least-right (last-step (s .header)) j h)
+  run-is j [] h = let e : j + 0 ≡ j = omega arith in rw (e, least-right (state-last s) j h)
   run-is j (advance budget ∷ calls) h =
       let e : j + (budget + budgets calls) ≡ j + budget + budgets calls = omega arith in
-      rw (advance-is j budget h, e, ← least-again (last-step (s .header)) (j + budget) (budgets calls))
-      (run-is (least (last-step (s .header)) (j + budget)) calls (least-most (last-step (s .header)) (j + budget)))
+      rw (advance-is j budget h, e, ← least-again (state-last s) (j + budget) (budgets calls))
+      (run-is (least (state-last s) (j + budget)) calls (least-most (state-last s) (j + budget)))
   run-is j (readings out ∷ calls) h = run-is j calls h
 
 -- ---- a loop over budgets

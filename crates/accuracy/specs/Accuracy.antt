@@ -1,6 +1,7 @@
 -- Demand 3: what holds after every list of calls from the fresh load of an accepted frame. It is one statement, `Accurate frame calls`, made of
 -- document 01's definitions; `accurate` of proofs/Demand3.antt proves it of every accepted frame and every list of calls.
 use mathlib.Core.Path.{_≡_}
+use mathlib.Core.Bool.{true}
 use mathlib.Core.List.{List, _∷_, _++_}
 use Prim.Native.Nat.{ℕ, _*_, _-_, _^_, _<_, _≤_}
 use lib.IntN.{ℤ, pos, natAbs, _+ℤ_, _-ℤ_, _*ℤ_}
@@ -8,18 +9,23 @@ use lib.ListN.{length}
 use Rattle.integers.specs.Flat.{at}
 use Rattle.integers.specs.Product.{dot}
 use Rattle.job.specs.Header.{radix, unit}
-use Rattle.job.specs.System.{matrix-of, right-side-of, argument, numerator, denominator-of}
+use Rattle.job.specs.Kind.{Kind, kind-of}
+use Rattle.job.specs.Rules.{last-step, inner-unit}
+use Rattle.job.specs.System.{matrix-of, right-side-of}
 use Rattle.frame.specs.Frame.{header-of, frame-numbers}
 use Rattle.recurrence.specs.Recurrence.{reading}
 use Rattle.recurrence.specs.System.{Solves}
-use Rattle.curve.specs.Curve.{CurveValue, numerator-value, denominator-value}
+use Rattle.curve.specs.Curve.{has-value, value-over, value-under, CurveValue}
 use Rattle.state.specs.Digits.{all-steps, digits-of}
-use Rattle.state.specs.State.{last-step}
 use Rattle.state.specs.declared.State.{State}
 use Rattle.evaluator.specs.Evaluator.{loaded, least, job-digit, readings-refusal, readings-list}
 use Rattle.accuracy.specs.Calls.{Call, readings, run, budgets}
 
--- ---- a frame's job: the order n, the radix r, the largest digit p, the unit u = 2^f, the last step
+-- ---- a frame's job: the kind, the order n, the radix r, the largest digit p, the unit u = 2^f of its numbers, the unit of the residuals
+-- inside its states, the last step
+
+abbrev pub kind : List ℕ → Kind
+kind frame = kind-of (header-of frame .kind)
 
 abbrev pub order : List ℕ → ℕ
 order frame = header-of frame .n
@@ -32,6 +38,9 @@ largest frame = header-of frame .p
 
 abbrev pub unit-of : List ℕ → ℕ
 unit-of frame = unit (header-of frame)
+
+abbrev pub inner-unit-of : List ℕ → ℕ
+inner-unit-of frame = inner-unit (header-of frame)
 
 abbrev pub last : List ℕ → ℕ
 last frame = last-step (header-of frame)
@@ -57,8 +66,8 @@ ExactValues frame N D = Solves (order frame) (unit-of frame) D (G frame) (b fram
 abbrev pub ExactCurve : List ℕ → Type 0
 ExactCurve frame =
     CurveValue (order frame) (unit-of frame) (G frame) (b frame)
-    (numerator-value (unit-of frame) (argument (frame-numbers frame)) (numerator (frame-numbers frame)) (order frame))
-    (denominator-value (unit-of frame) (argument (frame-numbers frame)) (denominator-of (header-of frame .kind) (order frame) (frame-numbers frame)) (order frame))
+    (value-over (kind frame) (order frame) (unit-of frame) (frame-numbers frame))
+    (value-under (kind frame) (order frame) (unit-of frame) (frame-numbers frame))
 
 -- ---- the state after the calls
 
@@ -84,8 +93,8 @@ pub record Accurate (frame : List ℕ) (calls : List Call) : Type 0 where
   -- for every k up to the steps made, every exact value and every row: (r - 1) |N r^k - D Y| ≤ p D
   pub near : (k : ℕ) → k ≤ after frame calls .k → (N : ℕ → ℤ) (D : ℕ) → 0 < D → ExactValues frame N D → (i : ℕ) → i < order frame →
       (base frame - 1) * natAbs (N i *ℤ pos (base frame ^ k) -ℤ pos D *ℤ Y frame calls k i) ≤ largest frame * D
-  -- row 1's exact value is that of the curve, for a polynomial (kind 0) and a rational curve (kind 1)
-  pub curve : header-of frame .kind ≤ 1 → ExactCurve frame
+  -- row 1's exact value is that of the curve, for the kinds that are curves: a polynomial and a rational curve
+  pub curve : has-value (kind frame) ≡ true → ExactCurve frame
   -- a readings call on the way hands out each row's Y at the steps made by then, and nothing where it is refused
   pub handed-out : (before rest : List Call) (out : List ℤ) → calls ≡ before ++ (readings out ∷ rest) → readings-refusal (after frame before) (length out) ≡ 0 → (i : ℕ) → i < order frame →
       at (readings-list (after frame before) out) i ≡ reading (base frame) (true-digit frame) (least (last frame) (budgets before)) i
@@ -94,5 +103,5 @@ pub record Accurate (frame : List ℕ) (calls : List Call) : Type 0 where
   -- r^k (b - A y) = z + G d, with y = Y / r^k and d the digits of step k, whether or not a solution is named
   pub identity : (i : ℕ) → i < order frame →
       pos (base frame ^ after frame calls .k) *ℤ b frame i
-      -ℤ (pos (unit-of frame) *ℤ Y frame calls (after frame calls .k) i -ℤ dot (order frame) (G frame i) (Y frame calls (after frame calls .k)))
+      -ℤ (pos (inner-unit-of frame) *ℤ Y frame calls (after frame calls .k) i -ℤ dot (order frame) (G frame i) (Y frame calls (after frame calls .k)))
       ≡ at (after frame calls .z) i +ℤ dot (order frame) (G frame i) (held-digit frame calls (after frame calls .k))

@@ -41,7 +41,7 @@ pub fn evaluate(frame: &[u8], budgets: &[u64], out: &mut [i64]) -> Evaluated
         };
     }
     let h = l.state.header;
-    let made = steps_allowed(budgets, h.m);
+    let made = steps_allowed(budgets, job::last_step(h));
     if out.len() < h.n {
         return Evaluated {
             refusal: 23,

@@ -1,6 +1,7 @@
 -- Row 1 of a curve's system has the curve's value (document 01, "One step"). Cited wherever a curve's exact value is promised.
-use mathlib.Core.Path.{_≡_, ap, _∙_}
-use mathlib.Core.List.{[], _∷_}
+use mathlib.Core.Path.{_≡_, sym, ap, _∙_}
+use mathlib.Core.Bool.{true, true≢false}
+use mathlib.Core.List.{List, [], _∷_}
 use Prim.Native.Nat.{ℕ, zero, suc, _*_, _-_, _<_, _≤_, _^_}
 use native.Mathlib.Nat.{one-le-pow}
 use native.Mathlib.Omega.{arith}
@@ -13,9 +14,10 @@ use Rattle.integers.specs.Parts.{parts-add}
 use Rattle.integers.specs.Power.{_^ℤ_, pow-pos, pow-positive, cancel}
 use Rattle.integers.specs.Product.{weight, entry-le-weight}
 use Rattle.integers.specs.Sum.{sum-none}
-use Rattle.job.specs.System.{curve-entry, past-first, no-denominator}
+use Rattle.job.specs.Kind.{Kind, polynomial, rational, system, unused}
+use Rattle.job.specs.System.{curve-entry, past-first, argument, numerator, denominator, no-denominator, matrix, right-side}
 use Rattle.recurrence.specs.System.{Solves, solves-ext}
-use Rattle.curve.specs.Curve.{numerator-value, denominator-value, CurveValue}
+use Rattle.curve.specs.Curve.{numerator-value, denominator-value, has-value, value-over, value-under, CurveValue}
 use Rattle.curve.specs.Horner.{horner, horner-small, numerator-horner, denominator-horner}
 use Rattle.curve.specs.Differences.{first-value, found, found-solves}
 use Rattle.curve.specs.Rows.{entry-first, entry-next, to-differences, of-differences, cut, cut-below, cut-end}
@@ -81,6 +83,15 @@ no-denominator-value u x n =
 
 pub polynomial-value : (u : ℕ) (x : ℤ) (p : ℕ → ℤ) (n : ℕ) → 0 < u → 0 < n → ((i : ℕ) → i < n → 4 * weight n (curve-entry x no-denominator i) ≤ u) → CurveValue n u (curve-entry x no-denominator) p (numerator-value u x p n) (pos u ^ℤ n)
 polynomial-value u x p n unit some short = rw (no-denominator-value u x n) at (curve-value u x p no-denominator n unit some short)
+
+-- the value of every kind that has one
+pub kind-value : (kind : Kind) (n u : ℕ) (v : List ℤ) → has-value kind ≡ true → 0 < u → 0 < n → ((i : ℕ) → i < n → 4 * weight n (matrix kind n u v i) ≤ u) →
+    CurveValue n u (matrix kind n u v) (right-side kind n v) (value-over kind n u v) (value-under kind n u v)
+unfolding matrix right-side
+kind-value polynomial n u v e unit some short = curve-value u (argument v) (numerator v) no-denominator n unit some short
+kind-value rational n u v e unit some short = curve-value u (argument v) (numerator v) (denominator n v) n unit some short
+kind-value system n u v e unit some short = absurd (true≢false (sym e))
+kind-value unused n u v e unit some short = absurd (true≢false (sym e))
 
 -- the same value in other terms, as 5/16 for 80/256
 pub other-terms : {n u : ℕ} {G : ℕ → ℕ → ℤ} {B : ℕ → ℤ} {P Q : ℤ} (P′ Q′ : ℤ) → pos 0 <ℤ Q′ → P *ℤ Q′ ≡ P′ *ℤ Q → CurveValue n u G B P Q → CurveValue n u G B P′ Q′

@@ -9,7 +9,8 @@ use lib.IntN.{ℤ, pos}
 use lib.ListN.{length, getD, set, drop}
 use lib.Seq.{sets, sets-eq, length-sets}
 use Rattle.integers.specs.Flat.{at, list-from}
-use Rattle.job.specs.Limits.{Limits, digit-small, steps-small}
+use Rattle.job.specs.Limits.{Limits, digit-small, steps-small, trace-small}
+use Rattle.job.specs.Rules.{trace-steps}
 use Rattle.job.specs.declared.Header.{Header}
 use Rattle.trace.specs.Trace.{digit-list, trace-refusal, trace-record, read-answer, writer-refusal, write-answer, write-buffer}
 use Rattle.trace.specs.Digits.{length-digit-list, digit-list-more, sets-append}
@@ -76,9 +77,9 @@ module _ (s : List ℕ) (c : Recorded) (e : c ≡ read-answer s) where
 -- ---- the words of a trace
 
 module _ (h : Header) (k : ℕ) where
-  module _ (l : Limits h) (m : k ≤ h .m) where
+  module _ (l : Limits h) (m : k ≤ trace-steps h) where
     pub steps-most : k ≤ 60
-    steps-most = omega (arith, steps-small h l)
+    steps-most = omega (arith, trace-small h l)
 
     small : (i : ℕ) → getD (header-words h k) i 0 ≤ 60
     small zero = omega (arith, l .kind-most)

@@ -6,6 +6,7 @@ ghost use Prim.Native.Nat.{_+_, _*_, _<_, _≤_};
 ghost use lib.ListN.{length, getD, drop};
 ghost use lib.Seq.{sets};
 ghost use Rattle.job.specs.Limits.{Limits};
+ghost use Rattle.job.specs.Rules.{trace-steps};
 ghost use Rattle.frame.specs.Frame.{write-buffer};
 ghost use Rattle.trace.specs.Groups.{digits-from};
 ghost use Rattle.emethod_c.specs.Foreign.{
@@ -183,7 +184,7 @@ fn header_word(h: Header, k: usize, i: usize) -> usize
 
 // Puts the first seven words of a trace into the list; the words past them stay.
 fn put_header(h: Header, k: usize, words: &mut [i64])
-    requires { ⌜ Limits h × (k ≤ h .m) × (7 ≤ length (now words)) ⌝ }
+    requires { ⌜ Limits h × (k ≤ trace-steps h) × (7 ≤ length (now words)) ⌝ }
     ensures { λ _. ⌜ now (words .exit) ≡ sets (now (words .entry)) 0 (header-numbers h k) ⌝ }
 {
     let mut i: usize = 0;
@@ -210,7 +211,7 @@ fn put_step(d: &[i8; 960], from: usize, n: usize, words: &mut [i64], to: usize)
 
 // Puts the words of a record into the list, the digits step by step and in a step row by row; the words past them stay.
 fn put_words(h: Header, k: usize, d: &[i8; 960], words: &mut [i64])
-    requires { ⌜ Limits h × (k ≤ h .m) × (word-count h k ≤ length (now words)) ⌝ }
+    requires { ⌜ Limits h × (k ≤ trace-steps h) × (word-count h k ≤ length (now words)) ⌝ }
     ensures { λ _. ⌜ now (words .exit) ≡ words-of h k (now (d .entry)) ++ drop (word-count h k) (now (words .entry)) ⌝ }
 {
     put_header(h, k, words);

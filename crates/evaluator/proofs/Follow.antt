@@ -10,11 +10,11 @@ use lib.ListN.{length, replicate, length-replicate, getD-replicate}
 use Rattle.integers.specs.Flat.{at, entry, at-flat-vector, entry-flat-matrix, length-list-from, stores-at, stores-other, length-stores}
 use Rattle.integers.specs.Maximum.{le-or-lt}
 use Rattle.integers.specs.Product.{dot-ext}
-use Rattle.job.specs.Header.{radix, unit}
+use Rattle.job.specs.Header.{radix}
 use Rattle.recurrence.specs.Recurrence.{shifted, next-digit, next-residual, residual, digit}
 use Rattle.recurrence.proofs.Stepped.{stepped-digit, stepped-residual, length-stepped-residuals}
 use Rattle.state.specs.Digits.{digits-of}
-use Rattle.state.specs.State.{fresh}
+use Rattle.state.specs.State.{fresh, state-unit}
 use Rattle.state.specs.declared.State.{State}
 use Rattle.job.specs.System.{matrix-of, right-side-of}
 use Rattle.job.specs.declared.Header.{Header}
@@ -89,16 +89,16 @@ module _ (G : ℕ → ℕ → ℤ) (B : ℕ → ℤ) (s : State) (order : s .hea
 
   chosen : (i : ℕ) → i < n → at (chosen-digits s) i ≡ job-digit (s .header) G B (suc (s .k)) i
   unfolding digit next-digit
-  chosen i l = stepped-digit n r (s .header .p) (unit (s .header)) (s .g) (s .z) (last-digits s) i l (omega arith) ∙ rw (same i l)
+  chosen i l = stepped-digit n r (s .header .p) (state-unit s) (s .g) (s .z) (last-digits s) i l (omega arith) ∙ rw (same i l)
 
   pub follows-step : Follows G B (one-step s)
   unfolding one-step residual next-residual next-digit
   follows-step = record {
     matrix = f .matrix;
-    residuals = λ i l. stepped-residual n r (s .header .p) (unit (s .header)) (s .g) (s .z) (last-digits s) i l (omega (arith, f .room-z)) ∙ rw (same i l);
+    residuals = λ i l. stepped-residual n r (s .header .p) (state-unit s) (s .g) (s .z) (last-digits s) i l (omega (arith, f .room-z)) ∙ rw (same i l);
     digits = λ j i m l. by-case (le-or-lt (suc (s .k)) j) i m l;
     later = λ j i m b l. stored-other n (s .k) (s .digits) (chosen-digits s) j i (λ e. omega arith) (omega arith) order ∙ f .later j i (omega arith) b l;
-    room-z = length-stepped-residuals n r (s .header .p) (unit (s .header)) (s .g) (s .z) (last-digits s) ∙ f .room-z;
+    room-z = length-stepped-residuals n r (s .header .p) (state-unit s) (s .g) (s .z) (last-digits s) ∙ f .room-z;
     room-digits = length-stores (s .digits) (λ i. 16 * s .k + i) (at (chosen-digits s)) n ∙ f .room-digits;
   }
     where

@@ -13,7 +13,8 @@ use Rattle.integers.specs.Absolute.{abs-add, abs-mul}
 use Rattle.integers.specs.Flat.{entry}
 use Rattle.integers.specs.Machine.{Machine, known, bounded, cast-is, read-i8, read-i64, machine-add, machine-fits, machine-eq}
 use Rattle.job.specs.Header.{digit-bits, radix}
-use Rattle.job.specs.Limits.{radix-least, radix-most, steps-small}
+use Rattle.job.specs.Rules.{last-step}
+use Rattle.job.specs.Limits.{radix-least, radix-most, last-bits, last-small}
 use Rattle.job.specs.declared.Header.{Header}
 use Rattle.recurrence.specs.Recurrence.{reading}
 use Rattle.state.specs.Digits.{digits-of}
@@ -42,10 +43,10 @@ readable {h} {k} p i r l e =
     rw e
     (record {
       row = omega (arith, p .limits .order-most);
-      steps = omega (arith, p .steps, steps-small h (p .limits));
+      steps = omega (arith, p .steps, last-small h (p .limits));
       radix-least = omega (arith, radix-least h (p .limits));
       radix-most = radix-most h (p .limits);
-      room = rw (power (digit-bits (h .code)) k) (pow-mono (fewer (h .m) k (digit-bits (h .code)) (p .limits .steps-most) (p .steps)));
+      room = rw (power (digit-bits (h .code)) k) (pow-mono (fewer (last-step h) k (digit-bits (h .code)) (last-bits h (p .limits)) (p .steps)));
       digits = λ t m. omega (arith, p .made t i m l, p .limits .digit-most);
     })
 

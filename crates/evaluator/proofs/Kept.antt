@@ -13,16 +13,18 @@ use lib.Pow.{pow-pos}
 use Rattle.integers.specs.Flat.{at, entry, at-flat-vector, length-stores, stores-at}
 use Rattle.integers.specs.Maximum.{le-or-lt}
 use Rattle.integers.specs.Product.{weight}
-use Rattle.job.specs.Header.{radix, unit}
-use Rattle.job.specs.Limits.{radix-least, radix-most, digit-small}
+use Rattle.job.specs.Header.{radix}
+use Rattle.job.specs.Limits.{Limits, radix-least, radix-most, digit-small}
 use Rattle.job.specs.Refusal.{first-refusal}
+use Rattle.job.specs.Rows.{light-enough}
+use Rattle.job.specs.Rules.{last-step, inner-bits, inner-unit, bound-over, bound-under}
 use Rattle.job.specs.declared.Header.{Header}
 use Rattle.recurrence.specs.Flat.{Ready}
-use Rattle.recurrence.specs.Light.{Light, light-half}
+use Rattle.recurrence.specs.Light.{Light, light-rule}
 use Rattle.recurrence.proofs.Stepped.{ready-next}
 use Rattle.state.specs.Digits.{digits-of}
 use Rattle.state.specs.Sound.{Sound}
-use Rattle.state.specs.State.{last-step, fresh, breaks-limit, state-checks}
+use Rattle.state.specs.State.{fresh, breaks-limit, state-checks, state-last, state-unit}
 use Rattle.state.specs.declared.State.{State}
 use Rattle.state.proofs.Sound.{sound-exactly, fresh-sound}
 use Rattle.frame.specs.Frame.{header-of, frame-numbers, frame-refusal}
@@ -62,38 +64,37 @@ stored-each n k ds d Q q h i l = by-case (le-or-lt (length ds) (16 * k + i))
 
 -- ---- a sound state can make a step
 
+-- a row that is light enough is light, as the recurrence has it
+pub light-row : {h : Header} {S : ℕ} → Limits h → light-enough h S ≡ true → Light (radix (h .code)) (h .p) (inner-unit h) bound-over bound-under S
+light-row {h} {S} l e =
+    light-rule (radix (h .code)) (h .p) (inner-unit h) bound-over bound-under S (omega (arith, radix-least h l)) (omega (arith, l .digit-least)) .1 (leb-true _ _ e)
+
 module _ (s : State) (p : Sound s) where
   abbrev n : ℕ
   n = s .header .n
-
-  light : (i : ℕ) → i < n → Light (radix (s .header .code)) (s .header .p) (unit (s .header)) 1 2 (weight n (entry (s .g) i))
-  light i l =
-      let r = radix-least (s .header) (p .limits) in
-      light-half (radix (s .header .code)) (s .header .p) (unit (s .header)) (weight n (entry (s .g) i)) (omega arith) (omega (arith, p .limits .digit-least))
-      .1 (leb-true _ _ (p .light i l))
 
   digit-within : (k i : ℕ) → k ≤ s .k → i < n → natAbs (digits-of (s .digits) k i) ≤ s .header .p
   digit-within zero i m l = omega arith
   digit-within (suc k) i m l = p .made k i m l
 
-  pub ready : Ready n (radix (s .header .code)) (s .header .p) (unit (s .header)) (s .g) (s .z) (last-digits s)
+  pub ready : Ready n (radix (s .header .code)) (s .header .p) (state-unit s) (s .g) (s .z) (last-digits s)
   ready =
       record {
         order = p .limits .order-most;
         radix = (radix-least (s .header) (p .limits), radix-most (s .header) (p .limits));
         largest = digit-small (s .header) (p .limits);
-        light = record { rows = light };
+        light = record { rows = λ i l. light-row (p .limits) (p .light i l) };
         held = record {
-          z-small = λ i l. omega (arith, p .small i l);
+          z-small = p .small;
           d-small = λ i l.
               rw (at-flat-vector n (digits-of (s .digits) (s .k)) i (p .limits .order-most) l) (digit-within (s .k) i (omega arith) l);
         };
       }
 
   -- ---- and is sound after it
-  module _ (left : s .k < last-step (s .header)) where
-    next : Ready n (radix (s .header .code)) (s .header .p) (unit (s .header)) (s .g) (left-residuals s) (chosen-digits s)
-    next = ready-next (pow-pos (s .header .f)) ready refl refl
+  module _ (left : s .k < state-last s) where
+    next : Ready n (radix (s .header .code)) (s .header .p) (state-unit s) (s .g) (left-residuals s) (chosen-digits s)
+    next = ready-next (pow-pos (inner-bits (s .header))) ready refl refl
 
     abbrev stored : List ℤ
     stored = digits-stored n (s .k) (s .digits) (chosen-digits s)
@@ -118,12 +119,12 @@ module _ (s : State) (p : Sound s) where
           limits = p .limits;
           steps = left;
           light = p .light;
-          small = λ i l. omega (arith, next .held .z-small i l);
+          small = next .held .z-small;
           made = made;
           later = λ t i a b l. other t i (λ e. omega arith) l ∙ p .later t i (omega arith) b l;
         }
 
-pub steps-sound : (s : State) (j : ℕ) → Sound s → s .k + j ≤ last-step (s .header) → Sound (steps s j)
+pub steps-sound : (s : State) (j : ℕ) → Sound s → s .k + j ≤ state-last s → Sound (steps s j)
 unfolding steps
 steps-sound s zero p l = p
 steps-sound s (suc j) p l = step-sound (steps s j) (steps-sound s j p (omega arith)) (rw (steps-header s j, steps-k s j) (omega arith))

@@ -14,12 +14,13 @@ use lib.ListN.{length, replicate, List·getD-eq-default}
 use lib.Seq.{ext-getD}
 use Rattle.integers.specs.Flat.{at, flat-vector, at-flat-vector, length-list-from, getD-list-from, length-stores}
 use Rattle.integers.specs.Maximum.{le-or-lt}
-use Rattle.job.specs.Header.{radix, unit}
-use Rattle.job.specs.Limits.{steps-small}
+use Rattle.job.specs.Header.{radix}
+use Rattle.job.specs.Limits as limits
 use Rattle.job.specs.declared.Header.{Header}
 use Rattle.recurrence.specs.Flat.{filled, digit-from, residual-from, stepped-digits, Vector, Ready}
 use Rattle.recurrence.specs.Sums.{Summed}
 use Rattle.recurrence.proofs.Stepped.{vector-zeros, length-stepped-digits, stepped-digit-past, stepped-vector, filled-stepped, filled-left}
+use Rattle.state.specs.State.{state-unit}
 use Rattle.state.specs.Digits.{digits-of}
 use Rattle.state.specs.Sound.{Sound, state-of}
 use Rattle.state.specs.declared.State.{State}
@@ -98,7 +99,7 @@ steps-whole s j z ds ez ed = state-is (steps s j) (sym (steps-busy s j)) (sym (s
 
 module _ {s : State} {made : ℕ} (b : Steppable s made) where
   pub last-small : s .k + made ≤ 60
-  last-small = omega (arith, b .left, steps-small (s .header) (b .sound .limits))
+  last-small = omega (arith, b .left, limits.last-small (s .header) (b .sound .limits))
 
 module _ {s : State} {made j : ℕ} {ds z before chosen : List ℤ} (b : Steppable s made) (l : j < made) (h : Reached s j ds z before chosen) where
   abbrev S : State
@@ -113,23 +114,23 @@ module _ {s : State} {made j : ℕ} {ds z before chosen : List ℤ} (b : Steppab
 
   module _ (r : ℕ) (radix-is : r ≡ radix (s .header .code)) where
     -- the step can be made
-    pub reached-ready : Ready (s .header .n) r (s .header .p) (unit (s .header)) (s .g) z before
+    pub reached-ready : Ready (s .header .n) r (s .header .p) (state-unit s) (s .g) z before
     reached-ready = rw (h .residuals, h .last, radix-is, steps-header s j) (rw (steps-header s j, steps-g s j) at (ready S sound))
 
     -- and one turn makes it: `sums` are the rows' sums, `new` and `next` are what `choose` left, and `ds′`, `before′` and `chosen′` what `hand_on` did
     module _ {sums new next ds′ before′ chosen′ : List ℤ} (es : Summed (s .header .n) (s .g) before sums)
-        (ec : new ≡ filled (digit-from r (s .header .p) (unit (s .header)) z sums) chosen (s .header .n))
-        (en : next ≡ filled (residual-from r (s .header .p) (unit (s .header)) z sums) z (s .header .n))
+        (ec : new ≡ filled (digit-from r (s .header .p) (state-unit s) z sums) chosen (s .header .n))
+        (en : next ≡ filled (residual-from r (s .header .p) (state-unit s) z sums) z (s .header .n))
         (ed : ds′ ≡ digits-stored (s .header .n) (s .k + j) ds new) (eb : before′ ≡ new) (ef : chosen′ ≡ before) where
-      stepped-new : new ≡ stepped-digits (s .header .n) r (s .header .p) (unit (s .header)) (s .g) z before
-      stepped-new = ec ∙ filled-stepped es r (s .header .p) (unit (s .header)) z (h .spare)
+      stepped-new : new ≡ stepped-digits (s .header .n) r (s .header .p) (state-unit s) (s .g) z before
+      stepped-new = ec ∙ filled-stepped es r (s .header .p) (state-unit s) z (h .spare)
 
       new-is : new ≡ chosen-digits S
       new-is = stepped-new ∙ rw (h .residuals, h .last, radix-is, steps-header s j, steps-g s j) refl
 
       next-is : next ≡ left-residuals S
       next-is =
-          en ∙ filled-left es r (s .header .p) (unit (s .header)) z ∙ rw (h .residuals, h .last, radix-is, steps-header s j, steps-g s j) refl
+          en ∙ filled-left es r (s .header .p) (state-unit s) z ∙ rw (h .residuals, h .last, radix-is, steps-header s j, steps-g s j) refl
 
       stored-is : ds′ ≡ digits-stored (S .header .n) (S .k) (S .digits) (chosen-digits S)
       stored-is = ed ∙ rw (h .digits, new-is, steps-header s j, steps-k s j) refl
@@ -138,12 +139,12 @@ module _ {s : State} {made j : ℕ} {ds z before chosen : List ℤ} (b : Steppab
       unfolding one-step
       copied =
           stored-copied (S .header .n) (S .k) (S .digits) (chosen-digits S) (sound .limits .order-most)
-          (length-stepped-digits (S .header .n) (radix (S .header .code)) (S .header .p) (unit (S .header)) (S .g) (S .z) (last-digits S))
-          (stepped-digit-past (S .header .n) (radix (S .header .code)) (S .header .p) (unit (S .header)) (S .g) (S .z) (last-digits S))
+          (length-stepped-digits (S .header .n) (radix (S .header .code)) (S .header .p) (state-unit S) (S .g) (S .z) (last-digits S))
+          (stepped-digit-past (S .header .n) (radix (S .header .code)) (S .header .p) (state-unit S) (S .g) (S .z) (last-digits S))
           (omega (arith, steps-k s j, length-digits s j, b .room, last-small b))
 
       pub new-vector : Vector (s .header .n) new
-      new-vector = rw stepped-new (stepped-vector (s .header .n) r (s .header .p) (unit (s .header)) (s .g) z before)
+      new-vector = rw stepped-new (stepped-vector (s .header .n) r (s .header .p) (state-unit s) (s .g) z before)
 
       pub reached-next : Reached s (j + 1) ds′ next before′ chosen′
       unfolding steps one-step

@@ -15,7 +15,7 @@ use Rattle.integers.specs.Flat.{list-from, length-list-from}
 use Rattle.job.specs.Refusal.{First, None, first-refusal, refused-exactly, accepted-exactly}
 use Rattle.frame.specs.Frame.{header-of, frame-numbers, frame-checks, frame-refusal}
 use Rattle.frame.specs.Theorems.{frame-refused, frame-accepted}
-use Rattle.state.specs.State.{last-step, idle-state, fresh, state-checks}
+use Rattle.state.specs.State.{idle-state, fresh, state-checks, state-last}
 use Rattle.state.specs.declared.State.{State}
 use Rattle.evaluator.specs.Evaluator.{loaded, least, steps, advance-checks, advance-refusal, steps-made, advanced, state-reading, readings-checks, readings-refusal, readings-list}
 use Rattle.evaluator.proofs.Calls.{least-most}
@@ -91,13 +91,13 @@ module _ (s : State) (budget : ℕ) where
   made-grows = steps-k s (steps-made s budget)
 
   -- as many steps as the budget allows and as are left
-  pub made-least : advanced s budget .refusal ≡ 0 → advanced s budget .made ≡ least budget (last-step (s .header) - s .k)
+  pub made-least : advanced s budget .refusal ≡ 0 → advanced s budget .made ≡ least budget (state-last s - s .k)
   unfolding advanced steps-made
   made-least e = rw e
 
-  made-most : steps-made s budget ≤ last-step (s .header) - s .k
+  made-most : steps-made s budget ≤ state-last s - s .k
   unfolding steps-made
-  made-most = in-both (eqb (advance-refusal s budget) 0) (λ j. j ≤ last-step (s .header) - s .k) (least-most budget (last-step (s .header) - s .k)) (omega arith)
+  made-most = in-both (eqb (advance-refusal s budget) 0) (λ j. j ≤ state-last s - s .k) (least-most budget (state-last s - s .k)) (omega arith)
 
   -- a state that passes 20 and 24 does so after advance too
   pub advanced-passes : first-refusal (state-checks s) ≡ 0 → first-refusal (state-checks (advanced s budget .state)) ≡ 0

@@ -6,15 +6,16 @@ use lib.Dec.{ltb, leb, eqb}
 use lib.IntN.{ℤ}
 use lib.ListN.{length, drop}
 use Rattle.integers.specs.Flat.{at, flat-vector, list-from, stores}
-use Rattle.job.specs.Header.{radix, unit}
+use Rattle.job.specs.Header.{radix}
 use Rattle.job.specs.Refusal.{Check, first-refusal}
+use Rattle.job.specs.Rules.{inner-unit}
 use Rattle.job.specs.declared.Header.{Header}
 use Rattle.frame.specs.Frame.{frame-refusal, row-of, header-of, frame-numbers}
 use Rattle.recurrence.specs.Recurrence.{digit, residual, reading}
 use Rattle.recurrence.specs.Selection.{select}
 use Rattle.recurrence.specs.Flat.{stepped-digits, stepped-residuals}
 use Rattle.state.specs.Digits.{digits-of}
-use Rattle.state.specs.State.{last-step, idle-state, fresh, state-checks}
+use Rattle.state.specs.State.{idle-state, fresh, state-checks, state-last, state-unit}
 use Rattle.state.specs.declared.State.{State}
 use Rattle.evaluator.specs.declared.Loaded.{Loaded}
 use Rattle.evaluator.specs.declared.Advanced.{Advanced}
@@ -32,10 +33,10 @@ loaded s =
 -- ---- the digits and the residuals that document 01's steps give on a matrix G and right-hand sides B, under the header h
 
 abbrev pub job-digit : Header → (ℕ → ℕ → ℤ) → (ℕ → ℤ) → ℕ → ℕ → ℤ
-job-digit h G B = digit (h .n) (radix (h .code)) (unit h) (select (h .p) (unit h)) G B
+job-digit h G B = digit (h .n) (radix (h .code)) (inner-unit h) (select (h .p) (inner-unit h)) G B
 
 abbrev pub job-residual : Header → (ℕ → ℕ → ℤ) → (ℕ → ℤ) → ℕ → ℕ → ℤ
-job-residual h G B = residual (h .n) (radix (h .code)) (unit h) (select (h .p) (unit h)) G B
+job-residual h G B = residual (h .n) (radix (h .code)) (inner-unit h) (select (h .p) (inner-unit h)) G B
 
 -- ---- one step of a state
 
@@ -45,10 +46,10 @@ last-digits s = flat-vector (s .header .n) (digits-of (s .digits) (s .k))
 
 -- the digits chosen in the next step, and the residuals that they leave
 abbrev pub chosen-digits : State → List ℤ
-chosen-digits s = stepped-digits (s .header .n) (radix (s .header .code)) (s .header .p) (unit (s .header)) (s .g) (s .z) (last-digits s)
+chosen-digits s = stepped-digits (s .header .n) (radix (s .header .code)) (s .header .p) (state-unit s) (s .g) (s .z) (last-digits s)
 
 abbrev pub left-residuals : State → List ℤ
-left-residuals s = stepped-residuals (s .header .n) (radix (s .header .code)) (s .header .p) (unit (s .header)) (s .g) (s .z) (last-digits s)
+left-residuals s = stepped-residuals (s .header .n) (radix (s .header .code)) (s .header .p) (state-unit s) (s .g) (s .z) (last-digits s)
 
 -- the array of digits with those of the step after the k-th stored, in the rows below n
 abbrev pub digits-stored : ℕ → ℕ → List ℤ → List ℤ → List ℤ
@@ -77,7 +78,7 @@ no-budget budget = eqb budget 0
 
 -- 21
 abbrev pub all-made : State → Bool
-all-made s = leb (last-step (s .header)) (s .k)
+all-made s = leb (state-last s) (s .k)
 
 unfoldable pub advance-checks : State → ℕ → List Check
 advance-checks s budget = state-checks s ++ ((22, no-budget budget) ∷ (21, all-made s) ∷ [])
@@ -90,7 +91,7 @@ least a b = cond (leb a b) a b
 
 -- as many steps as the budget allows and as are left, 0 with a refusal
 unfoldable pub steps-made : State → ℕ → ℕ
-steps-made s budget = cond (eqb (advance-refusal s budget) 0) (least budget (last-step (s .header) - s .k)) 0
+steps-made s budget = cond (eqb (advance-refusal s budget) 0) (least budget (state-last s - s .k)) 0
 
 -- with a refusal, 0 steps: the state as it went in
 unfoldable pub advanced : State → ℕ → Advanced

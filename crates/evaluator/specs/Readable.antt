@@ -4,9 +4,9 @@ use Prim.Native.Nat.{ℕ, _-_, _^_, _<_, _≤_}
 use mathlib.Core.List.{List}
 use lib.IntN.{ℤ, natAbs}
 use Rattle.integers.specs.Flat.{entry}
+use Rattle.job.specs.Rules.{last-step}
 use Rattle.job.specs.Limits.{Limits}
 use Rattle.job.specs.declared.Header.{Header}
-use Rattle.state.specs.State.{last-step}
 
 pub record Readable (ds : List ℤ) (i k r : ℕ) : Type 0 where
   pub row : i < 16

@@ -4,10 +4,10 @@ use mathlib.Core.Path.{_≡_}
 use Prim.Native.Nat.{ℕ, _+_, _≤_}
 use lib.ListN.{length}
 use Rattle.state.specs.Sound.{Sound}
-use Rattle.state.specs.State.{last-step}
+use Rattle.state.specs.State.{state-last}
 use Rattle.state.specs.declared.State.{State}
 
 pub record Steppable (s : State) (made : ℕ) : Type 0 where
   pub sound : Sound s
   pub room : length (s .digits) ≡ 960
-  pub left : s .k + made ≤ last-step (s .header)
+  pub left : s .k + made ≤ state-last s

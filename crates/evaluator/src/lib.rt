@@ -78,9 +78,9 @@ pub fn load(s: &[u8]) -> Loaded
     }
     let h = a.header;
     let c = job::count(h);
-    let g = system::matrix(h.kind, h.n, h.f, &v[..c]);
-    let z = system::right_sides(h.kind, h.n, &v[..c]);
-    let d = system::verdict_small(&g, &z, h);
+    let g = system::matrix(h, &v[..c]);
+    let z = system::right_sides(h, &v[..c]);
+    let d = system::verdict(&g, &z, h);
     if 0 < d.refusal {
         return refused(d.refusal, d.row);
     }
@@ -263,10 +263,11 @@ pub fn advance(s: State, budget: u64) -> Advanced
     let h = t.header;
     let k = t.k;
     let bad = state::check(t.busy, h, k, &t.g, &t.z, &t.digits);
-    let refusal = advance_refusal(bad, budget, k, h.m);
+    let last = job::last_step(h);
+    let refusal = advance_refusal(bad, budget, k, last);
     let mut made: u64 = 0;
     if refusal == 0 {
-        made = least(budget, (h.m - k) as u64);
+        made = least(budget, (last - k) as u64);
         let mut z = t.z;
         let mut digits = t.digits;
         make_steps(h, k, made as usize, &t.g, &mut z, &mut digits);

@@ -11,6 +11,7 @@ use lib.ListN.{length, drop}
 use Rattle.bitfields.specs.Layout.{field, fill}
 use Rattle.bitfields.specs.Twos.{numbers}
 use Rattle.job.specs.Header.{count, read-checks}
+use Rattle.job.specs.Kind.{kind-of}
 use Rattle.job.specs.Limits.{Limits, count-most}
 use Rattle.job.specs.Refusal.{first-refusal, refused-before, accepted-before}
 use Rattle.job.specs.declared.Header.{Header}
@@ -98,7 +99,7 @@ module _ {s : List ℕ} {h : Header} (k : LayoutRead s h) where
         let l = layout-limits in
         let size : length s ≡ frame-length h = layout-laid s (k .accepted) .size ∙ ap frame-length (sym (k .header)) in
         rw (e, w)
-        (omega (arith, size), count-most (h .kind) (h .n) (l .order-most), omega arith, omega (arith, l .fraction-most), omega (arith, size, frame-bits-most l))
+        (omega (arith, size), count-most (kind-of (h .kind)) (h .n) (l .order-most), omega arith, omega (arith, l .fraction-most), omega (arith, size, frame-bits-most l))
 
     pub unpack-accepted : (v : List ℤ) {out : List ℤ} → out ≡ numbers s 24 (h .f + 2) n ++ drop n v
         → (record { refusal = 0; row = 0; header = h } ≡ unpack-answer s) × (out ≡ unpacked s v)

@@ -13,8 +13,8 @@ use lib.Seq.{drop-cons, length-take-le}
 use Rattle.bitfields.specs.Layout.{Field, bits, number, each, octets, bytes-for, Bytes, pack, write, put, written}
 use Rattle.bitfields.specs.Twos.{encode, fitsb, AllFit}
 use Rattle.bitfields.proofs.Writing.{put-written}
-use Rattle.job.specs.Header.{number-bits, count-of, count, header-checks}
-use Rattle.job.specs.Limits.{Limits, limits-exactly}
+use Rattle.job.specs.Header.{number-bits, count, header-checks}
+use Rattle.job.specs.Limits.{Limits, limits-exactly, count-least}
 use Rattle.job.specs.Refusal.{first-refusal}
 use Rattle.job.specs.declared.Header.{Header}
 use Rattle.job.specs.declared.Verdict.{Verdict}
@@ -117,11 +117,6 @@ module _ (h : Header) (v : List ℤ) (room : ℕ) {c : ℕ} (e : c ≡ first-ref
 
 -- ---- the bytes of a valid job
 
-some-numbers : (kind n : ℕ) → 1 ≤ n → 0 < count-of kind n
-some-numbers zero n h = omega arith
-some-numbers (suc zero) n h = omega arith
-some-numbers (suc (suc k)) n h = omega (arith, mul-le-mul h h)
-
 header-bits : (h : Header) → bits (header-fields h) ≡ 24
 unfolding bits
 header-bits h = refl
@@ -148,7 +143,7 @@ module _ (h : Header) (v : List ℤ) (s : List ℕ) (pre : Valid h v × (length 
   put-room a e =
       let l = pre .0 .limits in
       rw (e, pre .1, pre .0 .counted)
-      (omega arith, some-numbers (h .kind) (h .n) (l .order-least), omega arith, omega (arith, l .fraction-most), omega (arith, frame-bits-most l), pre .0 .fit)
+      (omega arith, count-least (h .kind) (h .n) (l .kind-most) (l .order-least), omega arith, omega (arith, l .fraction-most), omega (arith, frame-bits-most l), pre .0 .fit)
 
   -- the header's three bytes give a, and then the numbers give b
   pub put-both : {x : ℕ} {a b : List ℕ} → Bytes s → x ≡ number (header-fields h) → a ≡ take 0 s ++ octets 3 x ++ drop (0 + 3) s

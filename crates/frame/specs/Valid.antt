@@ -19,6 +19,7 @@ use Rattle.bitfields.proofs.Reading.{field-lt}
 use Rattle.bitfields.proofs.Twos.{fits-fitsb, fitsb-true, length-numbers, numbers-fit}
 use Rattle.job.specs.Header.{number-bits, count, header-checks, read-checks}
 use Rattle.job.specs.Refusal.{Check, first-refusal, None, none, also, accepted-exactly}
+use Rattle.job.specs.Kind.{kind-of}
 use Rattle.job.specs.Limits.{Limits, limits-exactly, read-limits, count-most}
 use Rattle.job.specs.Rows.{light-enough, small-enough}
 use Rattle.job.specs.System.{matrix-of, right-side-of}
@@ -69,7 +70,7 @@ pub record Accepted (s : List ℕ) : Type 0 where
 pub frame-bits-most : {h : Header} → Limits h → frame-bits h ≤ 11448
 frame-bits-most {h} l =
     let w : number-bits h ≤ 42 = omega (arith, l .fraction-most) in
-    omega (arith, mul-le-mul w (count-most (h .kind) (h .n) (l .order-most)))
+    omega (arith, mul-le-mul w (count-most (kind-of (h .kind)) (h .n) (l .order-most)))
 
 -- ---- tests as facts
 
@@ -124,7 +125,7 @@ none-split ((k, b) ∷ xs) ys (also t f) = let g = none-split xs ys f in (also t
 -- ---- 1 to 7
 
 -- a header that was read has an order of 1 to 16
-read-order : (s : List ℕ) → (1 ≤ header-of s .n) × (header-of s .n ≤ 16)
+pub read-order : (s : List ℕ) → (1 ≤ header-of s .n) × (header-of s .n ≤ 16)
 read-order s = (omega arith, omega (arith, field-lt s 14 4))
 
 -- so 2 to 5 are enough for the limits

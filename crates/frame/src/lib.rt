@@ -148,9 +148,9 @@ fn rows_verdict(h: Header, v: &[i64]) -> Verdict
     requires { ⌜ Limits h × Numbers (count h) (now v) ⌝ }
     ensures { λ r. ⌜ r ≡ verdict-of (number-checks h (now (v .entry))) h (now (v .entry)) ⌝ }
 {
-    let g = system::matrix(h.kind, h.n, h.f, v);
-    let z = system::right_sides(h.kind, h.n, v);
-    system::verdict_small(&g, &z, h)
+    let g = system::matrix(h, v);
+    let z = system::right_sides(h, v);
+    system::verdict(&g, &z, h)
 }
 
 // Copies v to the front of out; the other words stay.

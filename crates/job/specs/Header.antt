@@ -1,9 +1,10 @@
 -- The header of a job (document 01, "Job frame"), its limits, and how many numbers and bits follow it. Cited by the readers and writers of frames
 -- and traces and by what the evaluator asks of a state.
-use mathlib.Core.Bool.{Bool, _||_}
+use mathlib.Core.Bool.{Bool, not, _||_}
 use mathlib.Core.List.{List, [], _∷_}
-use Prim.Native.Nat.{ℕ, zero, suc, _+_, _*_, _-_, _/_, _^_}
-use lib.Dec.{ltb, eqb}
+use Prim.Native.Nat.{ℕ, _+_, _*_, _-_, _/_, _^_}
+use lib.Dec.{ltb, leb, eqb}
+use Rattle.job.specs.Kind.{kind-of, is-unused, count-of}
 use Rattle.job.specs.Refusal.{Check}
 use Rattle.job.specs.declared.Header.{Header}
 
@@ -22,20 +23,23 @@ unit h = 2 ^ h .f
 abbrev pub number-bits : Header → ℕ
 number-bits h = h .f + 2
 
--- how many numbers a kind has: x and p_0 to p_(n-1); for a rational curve also q_1 to q_(n-1); for a system n rows of n + 1
-abbrev pub count-of : ℕ → ℕ → ℕ
-count-of zero n = n + 1
-count-of (suc zero) n = 2 * n
-count-of (suc (suc k)) n = n * (n + 1)
-
+-- how many numbers a job has
 abbrev pub count : Header → ℕ
-count h = count-of (h .kind) (h .n)
+count h = count-of (kind-of (h .kind)) (h .n)
 
 -- ---- the conditions of refusals 2, 3, 4, 5 and 14
 
--- 2: a kind or a radix code past its table. In a frame the fields have two bits, and only kind 3 is.
-abbrev pub unknown-kind : Header → Bool
-unknown-kind h = ltb 2 (h .kind) || ltb 3 (h .code)
+-- the radix codes that load, the frame reader and the frame writer take, and that a state may have
+abbrev pub frame-code : ℕ → Bool
+frame-code code = leb code 3
+
+-- the radix codes that the trace reader and the trace writer take
+abbrev pub trace-code : ℕ → Bool
+trace-code code = leb code 3
+
+-- 2: a kind past its table, or a radix code that is not known to the call. In a frame the fields have two bits, and only kind 3 is.
+abbrev pub unknown-kind : Bool → Header → Bool
+unknown-kind known h = is-unused (kind-of (h .kind)) || not known
 
 -- 3: p is r/2 to r - 1
 abbrev pub digit-out-of-range : Header → Bool
@@ -60,12 +64,26 @@ abbrev pub range-checks : Header → List Check
 range-checks h = (3, digit-out-of-range h) ∷ (4, fraction-out-of-range h) ∷ (5, steps-out-of-range h) ∷ []
 
 -- of a header that was read, whose order is 1 to 16 by its width: 2 to 5
-abbrev pub read-checks : Header → List Check
-read-checks h = (2, unknown-kind h) ∷ range-checks h
+abbrev pub read-checks-knowing : Bool → Header → List Check
+read-checks-knowing known h = (2, unknown-kind known h) ∷ range-checks h
 
 -- of a header of any numbers: 2, 14, 3, 4, 5
+abbrev pub header-checks-knowing : Bool → Header → List Check
+header-checks-knowing known h = (2, unknown-kind known h) ∷ (14, order-out-of-range h) ∷ range-checks h
+
+-- of a frame that was read; of what the frame writer is given, and of a state
+abbrev pub read-checks : Header → List Check
+read-checks h = read-checks-knowing (frame-code (h .code)) h
+
 abbrev pub header-checks : Header → List Check
-header-checks h = (2, unknown-kind h) ∷ (14, order-out-of-range h) ∷ range-checks h
+header-checks h = header-checks-knowing (frame-code (h .code)) h
+
+-- of a trace that was read, and of what the trace writer is given
+abbrev pub trace-read-checks : Header → List Check
+trace-read-checks h = read-checks-knowing (trace-code (h .code)) h
+
+abbrev pub trace-header-checks : Header → List Check
+trace-header-checks h = header-checks-knowing (trace-code (h .code)) h
 
 -- the header that goes with a refusal
 abbrev pub zero-header : Header

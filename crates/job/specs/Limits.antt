@@ -1,16 +1,31 @@
 -- The limits of a header as facts on its numbers, and that they are just what refusals 2, 14, 3, 4 and 5 leave. Cited wherever a proof needs a bound.
-use mathlib.Core.Path.{_≡_, refl}
+use mathlib.Core.Path.{_≡_, refl, sym, ap, _∙_}
 use mathlib.Core.Bool.{Bool, true, false, not, _||_}
 use mathlib.Core.Logic.{_↔_, _⊎_, inl, inr}
 use Prim.Native.Nat.{ℕ, zero, suc, _+_, _*_, _-_, _/_, _^_, _<_, _≤_}
 use native.Mathlib.Nat.{div-lt-iff-lt-mul, mul-le-mul}
 use native.Mathlib.Omega.{arith}
-use borrow.Author.Tests.{lt-ltb, le-ltb, ltb-false, eqb-false, ne-eqb}
-use lib.Dec.{T, ltb, eqb}
+use borrow.Author.Tests.{lt-ltb, le-ltb, le-leb, leb-true, ltb-false, eqb-false, ne-eqb, not-false}
+use lib.Dec.{T, ltb, leb, eqb}
 use lib.Pow.{pow-mono, pow-pos}
 use Rattle.integers.specs.Maximum.{le-or-lt}
 use Rattle.job.specs.Refusal.{first-refusal, None, none, also, accepted-exactly}
-use Rattle.job.specs.Header.{radix, digit-bits, unit, count-of, unknown-kind, read-checks, header-checks}
+use Rattle.job.specs.Header.{
+  radix,
+  digit-bits,
+  unit,
+  frame-code,
+  trace-code,
+  unknown-kind,
+  read-checks-knowing,
+  header-checks-knowing,
+  read-checks,
+  header-checks,
+  trace-read-checks,
+  trace-header-checks,
+}
+use Rattle.job.specs.Kind.{Kind, polynomial, rational, system, unused, kind-of, is-unused, count-of}
+use Rattle.job.specs.Rules.{last-step, trace-steps, inner-unit}
 use Rattle.job.specs.declared.Header.{Header}
 
 pub record Limits (h : Header) : Type 0 where
@@ -32,20 +47,52 @@ neither true b t = absurd t
 neither false true t = absurd t
 neither false false t = (refl, refl)
 
+fails : (b : Bool) → T (not b) → b ≡ false
+fails true t = absurd t
+fails false t = refl
+
+fewer : (m c : ℕ) → m * (c + 1) ≤ 60 → m ≤ 60
+fewer m c g = omega arith
+
 both-fail : (a b : Bool) → a ≡ false → b ≡ false → T (not (a || b))
 both-fail a b e f = rw (e, f) tt
 
-module _ (h : Header) where
-  checks-limits : None (header-checks h) → Limits h
+-- ---- the table of kinds: a number past its end, as the code tests it
+
+pub unused-is : (k : ℕ) → ltb 2 k ≡ is-unused (kind-of k)
+unused-is zero = refl
+unused-is (suc zero) = refl
+unused-is (suc (suc zero)) = refl
+unused-is (suc (suc (suc k))) = lt-ltb 2 (suc (suc (suc k))) (omega arith)
+
+pub other-kind : (k : ℕ) → (k ≡ 0 → ⊥) → (k ≡ 1 → ⊥) → (k ≡ 2 → ⊥) → kind-of k ≡ unused
+other-kind zero a b c = absurd (a refl)
+other-kind (suc zero) a b c = absurd (b refl)
+other-kind (suc (suc zero)) a b c = absurd (c refl)
+other-kind (suc (suc (suc k))) a b c = refl
+
+-- a kind and a radix code that are known are those of the tables
+module _ (h : Header) (known : Bool) (codes : known ≡ true → h .code ≤ 3) where
+  pub known-header : unknown-kind known h ≡ false → (h .kind ≤ 2) × (h .code ≤ 3)
+  known-header e =
+      let k = neither (is-unused (kind-of (h .kind))) (not known) (rw e tt) in
+      (ltb-false 2 (h .kind) (unused-is (h .kind) ∙ k .0), codes (not-false known (k .1)))
+
+-- ---- `known` is the test of a radix code against the table's last
+module _ (h : Header) (known : Bool) (codes : known ≡ leb (h .code) 3) where
+  pub code-small : known ≡ true → h .code ≤ 3
+  code-small t = leb-true _ _ (sym codes ∙ t)
+
+  checks-limits : None (header-checks-knowing known h) → Limits h
   checks-limits (also t₂ (also t₁₄ (also t₃ (also t₄ (also t₅ none))))) =
-      let k = neither (ltb 2 (h .kind)) (ltb 3 (h .code)) t₂ in
+      let k = known-header h known code-small (fails (unknown-kind known h) t₂) in
       let n = neither (ltb (h .n) 1) (ltb 16 (h .n)) t₁₄ in
       let p = neither (ltb (h .p) (radix (h .code) / 2)) (ltb (radix (h .code) - 1) (h .p)) t₃ in
       let f = neither (ltb (h .f) 4) (ltb 40 (h .f)) t₄ in
       let m = neither (eqb (h .m) 0) (ltb 60 (h .m * digit-bits (h .code))) t₅ in
       record {
-        kind-most = ltb-false _ _ (k .0);
-        code-most = ltb-false _ _ (k .1);
+        kind-most = k .0;
+        code-most = k .1;
         order-least = ltb-false _ _ (n .0);
         order-most = ltb-false _ _ (n .1);
         digit-least = ltb-false _ _ (p .0);
@@ -60,30 +107,47 @@ module _ (h : Header) where
       above zero g = absurd (g refl)
       above (suc m) g = omega arith
 
-  limits-checks : Limits h → None (header-checks h)
+  limits-checks : Limits h → None (header-checks-knowing known h)
   limits-checks l =
-      also (both-fail _ _ (le-ltb 2 (h .kind) (l .kind-most)) (le-ltb 3 (h .code) (l .code-most)))
+      also (both-fail _ _ (sym (unused-is (h .kind)) ∙ le-ltb 2 (h .kind) (l .kind-most)) (ap not (codes ∙ le-leb (h .code) 3 (l .code-most))))
       (also (both-fail _ _ (le-ltb (h .n) 1 (l .order-least)) (le-ltb 16 (h .n) (l .order-most)))
       (also (both-fail _ _ (le-ltb (h .p) (radix (h .code) / 2) (l .digit-least)) (le-ltb (radix (h .code) - 1) (h .p) (l .digit-most)))
       (also (both-fail _ _ (le-ltb (h .f) 4 (l .fraction-least)) (le-ltb 40 (h .f) (l .fraction-most)))
       (also (both-fail _ _ (ne-eqb (h .m) 0 (λ e. omega (arith, l .steps-least))) (le-ltb 60 (h .m * digit-bits (h .code)) (l .steps-most))) none))))
 
   -- refusals 2, 14, 3, 4 and 5 all pass exactly when the limits hold
-  pub limits-exactly : (first-refusal (header-checks h) ≡ 0) ↔ Limits h
-  limits-exactly =
-      ((λ e. checks-limits (accepted-exactly (header-checks h) tt .0 e)), (λ l. accepted-exactly (header-checks h) tt .1 (limits-checks l)))
+  limits-when : (first-refusal (header-checks-knowing known h) ≡ 0) ↔ Limits h
+  limits-when =
+      ((λ e. checks-limits (accepted-exactly (header-checks-knowing known h) tt .0 e)), (λ l. accepted-exactly (header-checks-knowing known h) tt .1 (limits-checks l)))
 
   -- a header that was read has an order of 1 to 16, and then 2 to 5 are enough
-  pub read-limits : 1 ≤ h .n → h .n ≤ 16 → (first-refusal (read-checks h) ≡ 0) ↔ Limits h
-  read-limits a b = ((λ e. limits-exactly .0 (order e)), (λ l. un-order (limits-exactly .1 l)))
+  read-limits-when : 1 ≤ h .n → h .n ≤ 16 → (first-refusal (read-checks-knowing known h) ≡ 0) ↔ Limits h
+  read-limits-when a b = ((λ e. limits-when .0 (order e)), (λ l. un-order (limits-when .1 l)))
     where
-      order : first-refusal (read-checks h) ≡ 0 → first-refusal (header-checks h) ≡ 0
+      order : first-refusal (read-checks-knowing known h) ≡ 0 → first-refusal (header-checks-knowing known h) ≡ 0
       order e = simp (le-ltb (h .n) 1 a, le-ltb 16 (h .n) b) e
 
-      un-order : first-refusal (header-checks h) ≡ 0 → first-refusal (read-checks h) ≡ 0
+      un-order : first-refusal (header-checks-knowing known h) ≡ 0 → first-refusal (read-checks-knowing known h) ≡ 0
       un-order e = simp (le-ltb (h .n) 1 a, le-ltb 16 (h .n) b) at e
 
-  -- ---- what the limits give as plain numbers
+pub limits-exactly : (h : Header) → (first-refusal (header-checks h) ≡ 0) ↔ Limits h
+limits-exactly h = limits-when h (frame-code (h .code)) refl
+
+pub read-limits : (h : Header) → 1 ≤ h .n → h .n ≤ 16 → (first-refusal (read-checks h) ≡ 0) ↔ Limits h
+read-limits h = read-limits-when h (frame-code (h .code)) refl
+
+pub trace-limits : (h : Header) → (first-refusal (trace-header-checks h) ≡ 0) ↔ Limits h
+trace-limits h = limits-when h (trace-code (h .code)) refl
+
+pub trace-read-limits : (h : Header) → 1 ≤ h .n → h .n ≤ 16 → (first-refusal (trace-read-checks h) ≡ 0) ↔ Limits h
+trace-read-limits h = read-limits-when h (trace-code (h .code)) refl
+
+-- ---- what the limits give as plain numbers
+module _ (h : Header) where
+  -- every step of a job has room in a trace
+  pub last-in-trace : last-step h ≤ trace-steps h
+  last-in-trace = omega arith
+
   module _ (l : Limits h) where
     pub radix-most : radix (h .code) ≤ 16
     radix-most = pow-mono {i = digit-bits (h .code)} {j = 4} (omega (arith, l .code-most))
@@ -103,11 +167,27 @@ module _ (h : Header) where
     pub unit-least : 16 ≤ unit h
     unit-least = pow-mono {i = 4} {j = h .f} (l .fraction-least)
 
+    pub inner-most : inner-unit h ≤ 2 ^ 40
+    inner-most = unit-most
+
+    pub inner-least : 16 ≤ inner-unit h
+    inner-least = unit-least
+
     pub steps-small : h .m ≤ 60
     steps-small = fewer (h .m) (h .code) (l .steps-most)
-      where
-        fewer : (m c : ℕ) → m * (c + 1) ≤ 60 → m ≤ 60
-        fewer m c g = omega arith
+
+    -- the steps of a job, and of a trace, have room in the arrays of a state and in 60 bits
+    pub last-bits : last-step h * digit-bits (h .code) ≤ 60
+    last-bits = l .steps-most
+
+    pub last-least : 1 ≤ last-step h
+    last-least = l .steps-least
+
+    pub last-small : last-step h ≤ 60
+    last-small = fewer (last-step h) (h .code) last-bits
+
+    pub trace-small : trace-steps h ≤ 60
+    trace-small = fewer (trace-steps h) (h .code) (l .steps-most)
 
 -- ---- a test by a quotient: x / b < m is x < m b
 pub ltb-quotient : (x b m : ℕ) → 0 < b → ltb (x / b) m ≡ ltb x (m * b)
@@ -121,22 +201,19 @@ ltb-quotient x b m h = by-case (le-or-lt m (x / b))
         not-less (inl g) = g
         not-less (inr g) = absurd (omega (arith, div-lt-iff-lt-mul {k = b} {x = x} {y = m} h .1 g))
 
--- a kind and a code of the tables
-pub known-kind : (h : Header) → unknown-kind h ≡ false → (h .kind ≤ 2) × (h .code ≤ 3)
-known-kind h e =
-    let k = neither (ltb 2 (h .kind)) (ltb 3 (h .code)) (rw e tt) in
-    (ltb-false 2 (h .kind) (k .0), ltb-false 3 (h .code) (k .1))
-
 pub radix-some : (code : ℕ) → 1 ≤ radix code
 radix-some code = pow-pos (digit-bits code)
 
--- ---- how many numbers a system has
-pub system-count : (kind n : ℕ) → (kind ≡ 0 → ⊥) → (kind ≡ 1 → ⊥) → n * (n + 1) ≡ count-of kind n
-system-count zero n a b = absurd (a refl)
-system-count (suc zero) n a b = absurd (b refl)
-system-count (suc (suc k)) n a b = refl
+-- ---- how many numbers there are
 
-pub count-most : (kind n : ℕ) → n ≤ 16 → count-of kind n ≤ 272
-count-most zero n h = omega arith
-count-most (suc zero) n h = omega arith
-count-most (suc (suc k)) n h = let more : n + 1 ≤ 17 = omega arith in omega (arith, mul-le-mul h more)
+pub count-most : (kind : Kind) (n : ℕ) → n ≤ 16 → count-of kind n ≤ 272
+count-most polynomial n h = omega arith
+count-most rational n h = omega arith
+count-most system n h = let more : n + 1 ≤ 17 = omega arith in omega (arith, mul-le-mul h more)
+count-most unused n h = omega arith
+
+pub count-least : (k n : ℕ) → k ≤ 2 → 1 ≤ n → 0 < count-of (kind-of k) n
+count-least zero n l h = omega arith
+count-least (suc zero) n l h = omega arith
+count-least (suc (suc zero)) n l h = omega (arith, mul-le-mul h h)
+count-least (suc (suc (suc k))) n l h = absurd (omega arith)

@@ -7,20 +7,37 @@ use lib.IntN.{ℤ, natAbs}
 use Rattle.integers.specs.Product.{weight}
 use Rattle.job.specs.Header.{radix, unit}
 use Rattle.job.specs.Refusal.{Check, first-refusal}
+use Rattle.job.specs.Rules.{inner-unit, bound-over, bound-under}
 use Rattle.job.specs.declared.Header.{Header}
 use Rattle.job.specs.declared.Verdict.{Verdict}
 
+-- Document 01's rule of light rows, 2 × r × p × S at most 2^f × (2p - (r - 1)), where 2 and 1 are the residual bound's: what a weight S is
+-- multiplied by, and what that may come to
+abbrev pub weight-factor : Header → ℕ
+weight-factor h = bound-under * radix (h .code) * h .p
+
+abbrev pub weight-room : Header → ℕ
+weight-room h = unit h * (bound-under * h .p - bound-over * (radix (h .code) - 1))
+
 -- document 01's "light enough", of a row of weight S
 abbrev pub light-enough : Header → ℕ → Bool
-light-enough h S = leb (2 * radix (h .code) * h .p * S) (unit h * (2 * h .p - (radix (h .code) - 1)))
+light-enough h S = leb (weight-factor h * S) (weight-room h)
+
+-- the largest weight that is light enough
+abbrev pub largest-light : Header → ℕ
+largest-light h = weight-room h / weight-factor h
 
 -- document 01's "small enough", of a right-hand side B
 abbrev pub small-enough : Header → ℤ → Bool
 small-enough h B = leb (2 * natAbs B) (unit h)
 
--- the largest weight that is light enough
-abbrev pub largest-light : Header → ℕ
-largest-light h = unit h * (2 * h .p - (radix (h .code) - 1)) / (2 * radix (h .code) * h .p)
+-- a residual z inside a state is within its bound
+abbrev pub residual-kept : Header → ℤ → Bool
+residual-kept h z = leb (bound-under * natAbs z) (bound-over * inner-unit h)
+
+-- the largest that is
+abbrev pub residual-most : Header → ℕ
+residual-most h = bound-over * inner-unit h / bound-under
 
 -- the number, from 1, of the first of k rows from row i on whose test is true; 0 where none is
 unfoldable pub first-row-from : ℕ → ℕ → (ℕ → Bool) → ℕ
@@ -30,12 +47,15 @@ first-row-from i (suc k) t = cond (t i) (suc i) (first-row-from (suc i) k t)
 abbrev pub first-row : ℕ → (ℕ → Bool) → ℕ
 first-row n t = first-row-from 0 n t
 
--- the first row that is too heavy, and the first whose right-hand side is too large; 0 where none is
+-- the first row that is too heavy, the first whose right-hand side is too large, and the first whose residual is; 0 where none is
 abbrev pub heavy-row : Header → (ℕ → ℕ → ℤ) → ℕ
 heavy-row h G = first-row (h .n) (λ i. not (light-enough h (weight (h .n) (G i))))
 
 abbrev pub large-row : Header → (ℕ → ℤ) → ℕ
 large-row h B = first-row (h .n) (λ i. not (small-enough h (B i)))
+
+abbrev pub large-residual : Header → (ℕ → ℤ) → ℕ
+large-residual h Z = first-row (h .n) (λ i. not (residual-kept h (Z i)))
 
 -- 8, 9: all weights are looked at before any right-hand side
 abbrev pub system-checks : Header → (ℕ → ℕ → ℤ) → (ℕ → ℤ) → List Check

@@ -7,6 +7,7 @@ use lib.Dec.{eqb}
 use lib.IntN.{ℤ, pos, negℤ, _-ℤ_}
 use lib.ListN.{getD}
 use Rattle.job.specs.Header.{unit}
+use Rattle.job.specs.Kind.{Kind, polynomial, rational, system, unused, kind-of}
 use Rattle.job.specs.declared.Header.{Header}
 
 -- the i-th number sent
@@ -46,29 +47,30 @@ no-denominator i = pos 0
 unfoldable pub system-entry : ℕ → ℕ → List ℤ → ℕ → ℕ → ℤ
 system-entry u n v i j = cond (eqb i j) (pos u) (pos 0) -ℤ sent v (i * (n + 1) + j)
 
--- ---- by the kind: 0 polynomial, 1 rational, 2 system
-
--- the q_i of a curve
-abbrev pub denominator-of : ℕ → ℕ → List ℤ → ℕ → ℤ
-denominator-of zero n v = no-denominator
-denominator-of (suc k) n v = denominator n v
+-- ---- by the kind
 
 -- the entry of G in row i and column j
-unfoldable pub matrix : ℕ → ℕ → ℕ → List ℤ → ℕ → ℕ → ℤ
-matrix zero n u v = curve-entry (argument v) (denominator-of 0 n v)
-matrix (suc zero) n u v = curve-entry (argument v) (denominator-of 1 n v)
-matrix (suc (suc k)) n u v = system-entry u n v
+unfoldable pub matrix : Kind → ℕ → ℕ → List ℤ → ℕ → ℕ → ℤ
+matrix polynomial n u v = curve-entry (argument v) no-denominator
+matrix rational n u v = curve-entry (argument v) (denominator n v)
+matrix system n u v = system-entry u n v
+matrix unused n u v = λ i j. pos 0
+
+-- where among the numbers the right-hand side of row i stands
+abbrev pub right-place : Kind → ℕ → ℕ → ℕ
+right-place polynomial n i = 1 + i
+right-place rational n i = 1 + i
+right-place system n i = i * (n + 1) + n
+right-place unused n i = 0
 
 -- the right-hand side of row i
-unfoldable pub right-side : ℕ → ℕ → List ℤ → ℕ → ℤ
-right-side zero n v i = numerator v i
-right-side (suc zero) n v i = numerator v i
-right-side (suc (suc k)) n v i = sent v (i * (n + 1) + n)
+unfoldable pub right-side : Kind → ℕ → List ℤ → ℕ → ℤ
+right-side kind n v i = sent v (right-place kind n i)
 
 -- ---- of the job with the header h and the numbers v
 
 abbrev pub matrix-of : Header → List ℤ → ℕ → ℕ → ℤ
-matrix-of h v = matrix (h .kind) (h .n) (unit h) v
+matrix-of h v = matrix (kind-of (h .kind)) (h .n) (unit h) v
 
 abbrev pub right-side-of : Header → List ℤ → ℕ → ℤ
-right-side-of h v = right-side (h .kind) (h .n) v
+right-side-of h v = right-side (kind-of (h .kind)) (h .n) v

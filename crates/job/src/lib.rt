@@ -1,21 +1,29 @@
 // The vocabulary of jobs: the header and its limits, which refusals 2, 3, 4, 5 and 14 look at, and how many numbers a job has. The matrix, the
 // right-hand sides and the weights of rows are defined in specs/System.antt and specs/Rows.antt.
 ghost use mathlib.Core.Path.{_≡_};
+ghost use mathlib.Core.Bool.{true};
 ghost use Prim.Native.Nat.{_≤_};
 ghost use Rattle.job.specs.Header.{
   radix,
   count,
+  frame-code,
+  trace-code,
   unknown-kind,
   digit-out-of-range,
   fraction-out-of-range,
   steps-out-of-range,
   order-out-of-range,
   range-checks,
+  read-checks-knowing,
+  header-checks-knowing,
   read-checks,
   header-checks,
+  trace-read-checks,
+  trace-header-checks,
   zero-header,
 };
 ghost use Rattle.job.specs.Refusal.{first-refusal};
+ghost use Rattle.job.specs.Rules.{last-step, trace-steps, inner-bits};
 
 // The header of a job frame, with the order n as a number from 1: kind (0 polynomial, 1 rational, 2 system), radix code, largest
 // digit p, fraction bits f, order n, steps m.
@@ -76,14 +84,55 @@ pub fn count(h: Header) -> usize
     if h.kind == 1 {
         return 2 * h.n;
     }
-    h.n * (h.n + 1)
+    if h.kind == 2 {
+        return h.n * (h.n + 1);
+    }
+    0
 }
 
-// 2: a kind or a radix code past its table.
-pub fn unknown_kind(h: Header) -> bool
-    ensures { λ r. ⌜ r ≡ unknown-kind h ⌝ }
+// The last step of a job.
+pub fn last_step(h: Header) -> usize
+    ensures { λ r. ⌜ r ≡ last-step h ⌝ }
 {
-    2 < h.kind || 3 < h.code
+    h.m
+}
+
+// The most steps that a trace of the job may hold.
+pub fn trace_steps(h: Header) -> usize
+    ensures { λ r. ⌜ r ≡ trace-steps h ⌝ }
+{
+    last_step(h)
+}
+
+// The fraction bits of the residuals inside a state.
+pub fn inner_bits(h: Header) -> usize
+    ensures { λ r. ⌜ r ≡ inner-bits h ⌝ }
+{
+    h.f
+}
+
+// Whether load, the frame reader and the frame writer take the radix code, and a state may have it.
+fn frame_code(code: usize) -> bool
+    ensures { λ r. ⌜ r ≡ frame-code code ⌝ }
+{
+    code <= 3
+}
+
+// Whether the trace reader and the trace writer take the radix code.
+fn trace_code(code: usize) -> bool
+    ensures { λ r. ⌜ r ≡ trace-code code ⌝ }
+{
+    code <= 3
+}
+
+// 2: a kind past its table, or a radix code that the call does not know.
+fn unknown_kind(h: Header, known: bool) -> bool
+    ensures { λ r. ⌜ r ≡ unknown-kind known h ⌝ }
+{
+    if 2 < h.kind {
+        return true;
+    }
+    !known
 }
 
 // 14: n outside 1 to 16.
@@ -134,25 +183,55 @@ pub fn range_refusal(h: Header) -> usize
     0
 }
 
-// Refusals 2 to 5, of a header as a frame or a trace has it.
-pub fn read_refusal(h: Header) -> usize
-    ensures { λ r. ⌜ r ≡ first-refusal (read-checks h) ⌝ }
+// Refusals 2 to 5, where the radix code is known to the call or not.
+fn read_refusal_knowing(h: Header, known: bool) -> usize
+    requires { ⌜ (known ≡ true → h .code ≤ 3) ⌝ }
+    ensures { λ r. ⌜ r ≡ first-refusal (read-checks-knowing known h) ⌝ }
 {
-    if unknown_kind(h) {
+    if unknown_kind(h, known) {
         return 2;
     }
     range_refusal(h)
 }
 
-// Refusals 2, 14, 3, 4 and 5, of a header of any numbers.
-pub fn header_refusal(h: Header) -> usize
-    ensures { λ r. ⌜ r ≡ first-refusal (header-checks h) ⌝ }
+// Refusals 2, 14, 3, 4 and 5, where the radix code is known to the call or not.
+fn header_refusal_knowing(h: Header, known: bool) -> usize
+    requires { ⌜ (known ≡ true → h .code ≤ 3) ⌝ }
+    ensures { λ r. ⌜ r ≡ first-refusal (header-checks-knowing known h) ⌝ }
 {
-    if unknown_kind(h) {
+    if unknown_kind(h, known) {
         return 2;
     }
     if order_out_of_range(h) {
         return 14;
     }
     range_refusal(h)
+}
+
+// Refusals 2 to 5, of the header of a frame that was read.
+pub fn read_refusal(h: Header) -> usize
+    ensures { λ r. ⌜ r ≡ first-refusal (read-checks h) ⌝ }
+{
+    read_refusal_knowing(h, frame_code(h.code))
+}
+
+// Refusals 2, 14, 3, 4 and 5, of any numbers for the header of a frame or a state.
+pub fn header_refusal(h: Header) -> usize
+    ensures { λ r. ⌜ r ≡ first-refusal (header-checks h) ⌝ }
+{
+    header_refusal_knowing(h, frame_code(h.code))
+}
+
+// Refusals 2 to 5, of the header of a trace that was read.
+pub fn trace_read_refusal(h: Header) -> usize
+    ensures { λ r. ⌜ r ≡ first-refusal (trace-read-checks h) ⌝ }
+{
+    read_refusal_knowing(h, trace_code(h.code))
+}
+
+// Refusals 2, 14, 3, 4 and 5, of any numbers for the header of a trace.
+pub fn trace_header_refusal(h: Header) -> usize
+    ensures { λ r. ⌜ r ≡ first-refusal (trace-header-checks h) ⌝ }
+{
+    header_refusal_knowing(h, trace_code(h.code))
 }

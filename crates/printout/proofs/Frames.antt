@@ -8,11 +8,12 @@ use borrow.Author.Tests.{eq-eqb, ne-eqb, le-leb, lt-leb}
 use lib.IntN.{ℤ}
 use lib.ListN.{length}
 use Rattle.integers.specs.Maximum.{le-or-lt}
-use Rattle.job.specs.Limits.{Limits, steps-small}
+use Rattle.job.specs.Rules.{last-step}
+use Rattle.job.specs.Limits.{Limits, last-least, last-small}
 use Rattle.job.specs.Refusal.{first-refusal, accepted-before}
 use Rattle.job.specs.declared.Header.{Header}
 use Rattle.frame.specs.Frame.{frame-refusal, row-of, header-of, frame-numbers}
-use Rattle.state.specs.State.{last-step, fresh, state-checks}
+use Rattle.state.specs.State.{fresh, state-checks}
 use Rattle.state.specs.declared.State.{State}
 use Rattle.evaluator.specs.Evaluator.{loaded, steps, no-budget, all-made, advance-checks, advance-refusal, least, advanced}
 use Rattle.evaluator.specs.declared.Loaded.{Loaded}
@@ -35,16 +36,16 @@ least-all m h = by-order (le-or-lt 60 m)
     by-order (inl l) = rw (le-leb 60 m l) (omega arith)
     by-order (inr l) = rw (lt-leb 60 m l)
 
-module _ (h : Header) (v : List ℤ) (p : first-refusal (state-checks (fresh h v)) ≡ 0) (least-steps : 1 ≤ h .m) (most-steps : h .m ≤ 60) where
+module _ (h : Header) (v : List ℤ) (p : first-refusal (state-checks (fresh h v)) ≡ 0) (least-steps : 1 ≤ last-step h) (most-steps : last-step h ≤ 60) where
   advances : advance-refusal (fresh h v) 60 ≡ 0
   unfolding advance-checks fresh
-  advances = accepted-before (state-checks (fresh h v)) ((22, no-budget 60) ∷ (21, all-made (fresh h v)) ∷ []) tt p ∙ rw (lt-leb (h .m) 0 (omega arith))
+  advances = accepted-before (state-checks (fresh h v)) ((22, no-budget 60) ∷ (21, all-made (fresh h v)) ∷ []) tt p ∙ rw (lt-leb (last-step h) 0 (omega arith))
 
   all-steps-made : advanced (fresh h v) 60 .state ≡ steps (fresh h v) (last-step h)
   unfolding advanced fresh
   all-steps-made =
-      let e : h .m - 0 ≡ h .m = omega arith in
-      ap (steps (fresh h v)) (rw e at (made-least (fresh h v) 60 advances) ∙ least-all (h .m) most-steps)
+      let e : last-step h - 0 ≡ last-step h = omega arith in
+      ap (steps (fresh h v)) (rw e at (made-least (fresh h v) 60 advances) ∙ least-all (last-step h) most-steps)
 
 -- ---- l is what load answered
 
@@ -82,7 +83,7 @@ module _ (s : List ℕ) (l : Loaded) (e : l ≡ loaded s) where
     state-is =
         ap (λ (x : Advanced). x .state) f
         ∙ ap (λ (t : State). advanced t 60 .state) loaded-is
-        ∙ all-steps-made (header-of s) (frame-numbers s) passes (limits .steps-least) (steps-small (header-of s) limits)
+        ∙ all-steps-made (header-of s) (frame-numbers s) passes (last-least (header-of s) limits) (last-small (header-of s) limits)
 
     pub printable : first-refusal (state-checks (a .state)) ≡ 0
     printable = rw state-is (loaded-passes s accepted (last-step (header-of s)) (omega arith))

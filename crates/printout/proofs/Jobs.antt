@@ -10,7 +10,7 @@ use lib.ListN.{length, length-append}
 use lib.Seq.{getD-take}
 use Rattle.integers.specs.Flat.{at, getD-list-from}
 use Rattle.job.specs.Header.{radix}
-use Rattle.job.specs.Limits.{steps-small}
+use Rattle.job.specs.Limits.{last-small}
 use Rattle.job.specs.Refusal.{first-refusal, accepted-before}
 use Rattle.job.specs.declared.Header.{Header}
 use Rattle.state.specs.Sound.{Sound}
@@ -55,7 +55,7 @@ module _ (s : State) (p : first-refusal (state-checks s) ≡ 0) where
   order-small = sound .limits .order-most
 
   pub made-small : s .k ≤ 60
-  made-small = omega (arith, sound .steps, steps-small (s .header) (sound .limits))
+  made-small = omega (arith, sound .steps, last-small (s .header) (sound .limits))
 
   -- its readings are not refused
   readings-pass : (room : ℕ) → 16 ≤ room → readings-refusal s room ≡ 0

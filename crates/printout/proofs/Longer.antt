@@ -13,7 +13,7 @@ use lib.Seq.{length-take-le, take-all}
 use Rattle.integers.specs.Maximum.{le-or-lt}
 use Rattle.bitfields.specs.Layout.{Bytes}
 use Rattle.bitfields.proofs.Reading.{field-part}
-use Rattle.job.specs.Header.{unknown-kind, digit-out-of-range, fraction-out-of-range, steps-out-of-range, read-checks}
+use Rattle.job.specs.Header.{frame-code, unknown-kind, digit-out-of-range, fraction-out-of-range, steps-out-of-range, read-checks}
 use Rattle.job.specs.Refusal.{first-refusal}
 use Rattle.job.specs.declared.Header.{Header}
 use Rattle.frame.specs.Frame.{header-of, frame-length, frame-checks, frame-refusal}
@@ -42,7 +42,7 @@ no-row false false false true job row = refl
 no-row false false false false job row = refl
 
 abbrev long-refusal : Header → ℕ
-long-refusal h = nested (unknown-kind h) (digit-out-of-range h) (fraction-out-of-range h) (steps-out-of-range h) 6
+long-refusal h = nested (unknown-kind (frame-code (h .code)) h) (digit-out-of-range h) (fraction-out-of-range h) (steps-out-of-range h) 6
 
 -- ---- an input of more than 1,431 bytes
 
@@ -54,13 +54,13 @@ module _ (s : List ℕ) (long : 1431 < length s) where
   unfolding frame-checks
   long-refused =
       rw (le-ltb (length s) 3 (omega arith))
-      (sixth (unknown-kind (header-of s)) (digit-out-of-range (header-of s)) (fraction-out-of-range (header-of s)) (steps-out-of-range (header-of s)) _ _ wrong)
+      (sixth (unknown-kind (frame-code (header-of s .code)) (header-of s)) (digit-out-of-range (header-of s)) (fraction-out-of-range (header-of s)) (steps-out-of-range (header-of s)) _ _ wrong)
 
   long-text : frame-text s ≡ refused-text (long-refusal (header-of s)) 0
   unfolding frame-text
   long-text =
       rw long-refused
-      (no-row (unknown-kind (header-of s)) (digit-out-of-range (header-of s)) (fraction-out-of-range (header-of s)) (steps-out-of-range (header-of s)) _ _)
+      (no-row (unknown-kind (frame-code (header-of s .code)) (header-of s)) (digit-out-of-range (header-of s)) (fraction-out-of-range (header-of s)) (steps-out-of-range (header-of s)) _ _)
 
 -- ---- its first k bytes have the same header
 

@@ -6,12 +6,13 @@ use Prim.Native.Nat.{ℕ, zero, suc}
 use lib.Dec.{eqb, ltb}
 use lib.IntN.{ℤ}
 use lib.ListN.{length}
+use Rattle.job.specs.Rules.{last-step}
 use Rattle.job.specs.Header.{radix}
 use Rattle.job.specs.Refusal.{Check, first-refusal}
 use Rattle.job.specs.declared.Header.{Header}
 use Rattle.frame.specs.Frame.{frame-refusal, row-of, header-of, frame-numbers}
 use Rattle.state.specs.Digits.{digits-of}
-use Rattle.state.specs.State.{last-step, fresh}
+use Rattle.state.specs.State.{fresh}
 use Rattle.state.specs.declared.State.{State}
 use Rattle.evaluator.specs.Evaluator.{steps, state-reading}
 use Rattle.text.specs.Text.{decimal, signed-decimal, line, with-text}

@@ -8,6 +8,7 @@ use lib.IntN.{ℤ, natAbs}
 use lib.Pow.{pow-pos}
 use Rattle.integers.specs.Flat.{at, entry}
 use Rattle.integers.specs.Product.{weight, abs-dot, entry-le-weight}
+use Rattle.job.specs.Rules.{bound-over, bound-under}
 use Rattle.recurrence.specs.Recurrence.{shifted}
 use Rattle.recurrence.specs.Row.{light-less}
 use Rattle.recurrence.specs.Theorems.{bound}
@@ -18,7 +19,7 @@ use Rattle.recurrence.proofs.Choice.{unit-small}
 module _ {n r p f : ℕ} {g z d : List ℤ} (bits : f ≤ 40) (h : Ready n r p (2 ^ f) g z d) where
   weight-small : (i : ℕ) → i < n → weight n (entry g i) ≤ 2 ^ 40
   weight-small i l =
-      omega (arith, light-less r p (2 ^ f) 1 2 (weight n (entry g i)) (h .radix .0) (omega arith) (pow-pos f) (h .light .rows i l), unit-small f bits)
+      omega (arith, light-less r p (2 ^ f) bound-over bound-under (weight n (entry g i)) (h .radix .0) (omega arith) (pow-pos f) (h .light .rows i l), unit-small f bits)
 
   pub rows-summable : RowsSummable n g d
   rows-summable i l =

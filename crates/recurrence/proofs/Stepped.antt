@@ -15,6 +15,7 @@ use Rattle.recurrence.specs.Selection.{select, select-selects}
 use Rattle.recurrence.specs.Recurrence.{shifted, next-digit, next-residual, residual, digit}
 use Rattle.recurrence.specs.Theorems.{held-next}
 use Rattle.integers.specs.Flat.{at, entry, stores, stores-zero, stores-suc, length-stores, stores-other, stores-at}
+use Rattle.job.specs.Rules.{bound-over, bound-under}
 use Rattle.recurrence.specs.Flat.{filled, stepped-digits, stepped-residuals, After, digit-from, residual-from, Vector, Ready}
 use Rattle.recurrence.specs.Sums.{row-dot, Summed}
 
@@ -148,7 +149,7 @@ ready-next {n} {r} {p} {u} {g} {z} {d} hu h ez ed =
       largest = h .largest;
       light = h .light;
       held = record {
-        z-small = filled-each (next-residual n r u (select p u) (entry g) (at z) (at d)) z (λ x. 2 * natAbs x ≤ 1 * u) n (omega arith) (k .z-small);
+        z-small = filled-each (next-residual n r u (select p u) (entry g) (at z) (at d)) z (λ x. bound-under * natAbs x ≤ bound-over * u) n (omega arith) (k .z-small);
         d-small = filled-each (next-digit n r (select p u) (entry g) (at z) (at d)) (replicate 16 (pos 0)) (λ x. natAbs x ≤ p) n (omega arith) (k .d-small);
       };
     })

@@ -12,6 +12,7 @@ use Rattle.integers.specs.Absolute.{Within}
 use Rattle.integers.specs.Machine.{Machine, known, bounded, machs, machine-eq, machine-within}
 use Rattle.recurrence.specs.Selection.{Selects, select, select-selects}
 use Rattle.integers.specs.Flat.{at}
+use Rattle.job.specs.Rules.{bound-over, bound-under}
 use Rattle.recurrence.specs.Flat.{filled, shifted-by, digit-from, residual-from, Choosable}
 use Rattle.recurrence.proofs.Choice.{unit-small}
 use Rattle.recurrence.proofs.Stepped.{filled-past}
@@ -38,13 +39,13 @@ module _ {z s : List ℤ} {n r p f i : ℕ} {v : List ℤ} (h : Begun z s n r p 
   unit-bound : 2 ^ f ≤ 2 ^ 40
   unit-bound = unit-small f (h .bits)
 
-  W-bound : 2 * natAbs W ≤ (2 * p + 1) * 2 ^ f
+  W-bound : bound-under * natAbs W ≤ (bound-under * p + bound-over) * 2 ^ f
   W-bound = h .ready .bound i (h .below)
 
   W-small : natAbs W ≤ 2 ^ 45
   W-small = let k : 2 * p + 1 ≤ 31 = omega (arith, h .ready .largest) in omega (arith, W-bound, mul-le-mul k unit-bound)
 
-  rule : Selects p (2 ^ f) 1 2 (select p (2 ^ f))
+  rule : Selects p (2 ^ f) bound-over bound-under (select p (2 ^ f))
   rule = select-selects p (2 ^ f) (pow-pos f)
 
   D-small : natAbs D ≤ 15

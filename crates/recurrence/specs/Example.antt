@@ -10,13 +10,14 @@ use lib.IntN.{ℤ, pos, negsuc, natAbs, _-ℤ_, _*ℤ_}
 use Rattle.integers.specs.Sum.{sum, total}
 use Rattle.integers.specs.Product.{dot, weight}
 use Rattle.integers.specs.Maximum.{below-suc}
+use Rattle.job.specs.Rules.{bound-over, bound-under}
 use Rattle.recurrence.specs.System.{Solves}
 use Rattle.recurrence.specs.Selection.{digit-size, select}
-use Rattle.recurrence.specs.Recurrence.{shifted, next-digit, next-residual, digit, reading}
+use Rattle.recurrence.specs.Recurrence.{shifted, next-digit, next-residual, digit, reading, digit-sum}
 use Rattle.recurrence.specs.Light.{Light, LightRows}
 use Rattle.integers.specs.Flat.{at, entry, stores}
 use Rattle.recurrence.specs.Flat.{stepped-digits, stepped-residuals, Ready}
-use Rattle.recurrence.specs.Theorems.{select-distance}
+use Rattle.recurrence.specs.Theorems.{reading-sum, select-distance}
 
 -- ---- the choice, at unit 16 and largest digit 1: ties away from zero on both sides, and no rounding up above 1
 
@@ -55,9 +56,9 @@ N i = getD (pos 16 ∷ negsuc 3 ∷ []) i (pos 0)
 both : (Q : ℕ → Type 0) → Q 0 → Q 1 → (i : ℕ) → i < 2 → Q i
 both Q a b = below-suc Q 1 b (below-suc Q 0 a (λ i m. absurd (omega arith)))
 
-light : LightRows 2 2 1 16 1 2 G
+light : LightRows 2 2 1 16 bound-over bound-under G
 unfolding weight total
-light = record { rows = both (λ i. Light 2 1 16 1 2 (weight 2 (G i))) (record { light = lit≤ tt }) (record { light = lit≤ tt }) }
+light = record { rows = both (λ i. Light 2 1 16 bound-over bound-under (weight 2 (G i))) (record { light = lit≤ tt }) (record { light = lit≤ tt }) }
 
 solved : Solves 2 16 33 G B N
 unfolding dot sum
@@ -67,7 +68,7 @@ abbrev d : ℕ → ℕ → ℤ
 d = digit 2 2 16 (select 1 16) G B
 
 near : (k i : ℕ) → i < 2 → 1 * natAbs (N i *ℤ pos (2 ^ k) -ℤ pos 33 *ℤ reading 2 d k i) ≤ 1 * 33
-near = select-distance (omega arith) (omega arith) light (both (λ i. 2 * natAbs (B i) ≤ 16) (lit≤ tt) (lit≤ tt)) solved
+near = select-distance (omega arith) (omega arith) light (both (λ i. bound-under * natAbs (B i) ≤ bound-over * 16) (lit≤ tt) (lit≤ tt)) solved
 
 -- the digits of five steps
 row-1 : map (λ k. d k 0) (1 ∷ 2 ∷ 3 ∷ 4 ∷ 5 ∷ []) ≡ pos 1 ∷ pos 0 ∷ pos 0 ∷ pos 0 ∷ negsuc 0 ∷ []
@@ -82,6 +83,11 @@ row-2 = refl
 readings : map (reading 2 d 5) (0 ∷ 1 ∷ []) ≡ pos 15 ∷ negsuc 3 ∷ []
 unfolding reading digit next-digit next-residual shifted select digit-size dot sum
 readings = refl
+
+-- as document 01's sum, 15 is 16 less 1
+reading-B : reading 2 d 5 0 ≡ pos 15
+unfolding digit-sum digit next-digit next-residual shifted select digit-size dot sum
+reading-B = reading-sum 2 d 5 0
 
 -- ---- case B as the code has it, in lists: it can be stepped, and its first two steps
 
@@ -101,9 +107,9 @@ ready =
       order = lit≤ tt;
       radix = (lit≤ tt, lit≤ tt);
       largest = lit≤ tt;
-      light = record { rows = both (λ i. Light 2 1 16 1 2 (weight 2 (entry g i))) (record { light = lit≤ tt }) (record { light = lit≤ tt }) };
+      light = record { rows = both (λ i. Light 2 1 16 bound-over bound-under (weight 2 (entry g i))) (record { light = lit≤ tt }) (record { light = lit≤ tt }) };
       held = record {
-        z-small = both (λ i. 2 * natAbs (at z i) ≤ 1 * 16) (lit≤ tt) (lit≤ tt);
+        z-small = both (λ i. bound-under * natAbs (at z i) ≤ bound-over * 16) (lit≤ tt) (lit≤ tt);
         d-small = both (λ i. natAbs (at zeros i) ≤ 1) (lit≤ tt) (lit≤ tt);
       };
     }

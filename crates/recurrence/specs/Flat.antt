@@ -6,6 +6,7 @@ use Prim.Native.Nat.{ℕ, _+_, _*_, _^_, _<_, _≤_}
 use lib.IntN.{ℤ, pos, natAbs, _+ℤ_, _-ℤ_, _*ℤ_}
 use lib.ListN.{length, replicate}
 use Rattle.integers.specs.Flat.{at, entry, stores}
+use Rattle.job.specs.Rules.{bound-over, bound-under}
 use Rattle.recurrence.specs.Selection.{select}
 use Rattle.recurrence.specs.Recurrence.{next-digit, next-residual, residual, digit}
 use Rattle.recurrence.specs.Light.{LightRows, Held}
@@ -48,19 +49,19 @@ pub record Vector (n : ℕ) (v : List ℤ) : Type 0 where
   pub size : length v ≡ 16
   pub past : (i : ℕ) → n ≤ i → at v i ≡ pos 0
 
--- a digit can be chosen in every row: |w| is at most p + 1/2 units
+-- a digit can be chosen in every row: |w| is at most p units and the residual bound more
 pub record Choosable (n r p u : ℕ) (z s : List ℤ) : Type 0 where
   pub order : n ≤ 16
   pub radix : r ≤ 16
   pub largest : p ≤ 15
   pub residuals : (i : ℕ) → i < n → natAbs (at z i) ≤ 2 ^ 40
   pub sums : (i : ℕ) → i < n → natAbs (at s i) ≤ 2 ^ 48
-  pub bound : (i : ℕ) → i < n → 2 * natAbs (shifted-by r z s i) ≤ (2 * p + 1) * u
+  pub bound : (i : ℕ) → i < n → bound-under * natAbs (shifted-by r z s i) ≤ (bound-under * p + bound-over) * u
 
--- document 01's limits on a job and on its numbers: light rows, residuals of at most 1/2 and digits within p
+-- document 01's limits on a job and on its numbers: light rows, residuals within their bound and digits within p
 pub record Ready (n r p u : ℕ) (g z d : List ℤ) : Type 0 where
   pub order : n ≤ 16
   pub radix : (2 ≤ r) × (r ≤ 16)
   pub largest : p ≤ 15
-  pub light : LightRows n r p u 1 2 (entry g)
-  pub held : Held n p u 1 2 (at z) (at d)
+  pub light : LightRows n r p u bound-over bound-under (entry g)
+  pub held : Held n p u bound-over bound-under (at z) (at d)

@@ -24,15 +24,15 @@ pub record Held (n p u c e : ℕ) (z d : ℕ → ℤ) : Type 0 where
 
 -- ---- document 01's own words
 
-by-less : (q p u S x : ℕ) → x + q ≡ 2 * p → (suc q * (2 * (p * S) + 1 * u) ≤ (2 * p + 1) * u) ↔ (2 * suc q * p * S ≤ u * x)
-by-less q p u S x h = omega (arith, ap (λ t. u * t) h)
+by-less : (q p u c e S x : ℕ) → x + c * q ≡ e * p → (suc q * (e * (p * S) + c * u) ≤ (e * p + c) * u) ↔ (e * suc q * p * S ≤ u * x)
+by-less q p u c e S x h = omega (arith, ap (λ t. u * t) h)
 
--- at c / e = 1/2 it is document 01's rule
-pub light-half : (r p u S : ℕ) → 1 ≤ r → r - 1 ≤ 2 * p → Light r p u 1 2 S ↔ (2 * r * p * S ≤ u * (2 * p - (r - 1)))
-light-half r p u S hr h = of-radix r (r - 1) (omega arith) h
+-- it is document 01's rule, whose 2 and 1 are e and c
+pub light-rule : (r p u c e S : ℕ) → 1 ≤ r → c * (r - 1) ≤ e * p → Light r p u c e S ↔ (e * r * p * S ≤ u * (e * p - c * (r - 1)))
+light-rule r p u c e S hr h = of-radix r (r - 1) (omega arith) h
   where
-    of-radix : (r q : ℕ) → r ≡ suc q → q ≤ 2 * p → Light r p u 1 2 S ↔ (2 * r * p * S ≤ u * (2 * p - q))
-    of-radix r q e h = rw e (let f = by-less q p u S (2 * p - q) (omega arith) in ((λ l. f .0 (l .light)), (λ k. record { light = f .1 k })))
+    of-radix : (r q : ℕ) → r ≡ suc q → c * q ≤ e * p → Light r p u c e S ↔ (e * r * p * S ≤ u * (e * p - c * q))
+    of-radix r q m h = rw m (let f = by-less q p u c e S (e * p - c * q) (omega arith) in ((λ l. f .0 (l .light)), (λ k. record { light = f .1 k })))
 
 -- ---- only the rows and columns below n count
 

@@ -2,9 +2,10 @@
 -- Cited by every theorem of this crate, by the steps of a state, and by the claims about whole jobs.
 -- Vectors are functions of a row and matrices of a row and a column, of which those below n count.
 use mathlib.Core.Path.{_≡_, refl}
-use Prim.Native.Nat.{ℕ, zero, suc, _<_}
+use Prim.Native.Nat.{ℕ, zero, suc, _-_, _^_, _<_}
 use lib.IntN.{ℤ, pos, _+ℤ_, _-ℤ_, _*ℤ_}
 use Rattle.integers.specs.Product.{dot}
+use Rattle.integers.specs.Sum.{sum}
 
 -- ---- one step, from residuals z and the digits d of the step before
 
@@ -38,6 +39,10 @@ module _ (n r u : ℕ) (sel : ℤ → ℤ) (G : ℕ → ℕ → ℤ) (B : ℕ �
 unfoldable pub reading : ℕ → (ℕ → ℕ → ℤ) → ℕ → ℕ → ℤ
 reading r d zero i = pos 0
 reading r d (suc k) i = pos r *ℤ reading r d k i +ℤ d (suc k) i
+
+-- Document 01's words: the sum, over the steps j from 1 to k, of the digit of step j times r^(k-j). `reading-sum` of `Theorems` has that it is the reading.
+unfoldable pub digit-sum : ℕ → (ℕ → ℕ → ℤ) → ℕ → ℕ → ℤ
+digit-sum r d k i = sum k (λ j. d (suc j) i *ℤ pos (r ^ (k - suc j)))
 
 -- ---- the recurrence as a relation
 

@@ -12,6 +12,7 @@ use lib.IntN.{ℤ, pos, negsuc, negℤ, natAbs, _-ℤ_, _*ℤ_}
 use Rattle.integers.specs.Parts.{posPart-neg, negPart-neg, parts-add}
 use Rattle.integers.specs.Absolute.{abs-neg, abs-le}
 use Rattle.integers.specs.Normal.{solve, polys}
+use Rattle.job.specs.Rules.{bound-over, bound-under}
 
 -- ---- the rule
 
@@ -108,5 +109,5 @@ module _ (p u : ℕ) (hu : 0 < u) where
       let e : negsuc a -ℤ pos u *ℤ negℤ q ≡ negℤ (pos (suc a) -ℤ pos u *ℤ q) = mirrored (pos (suc a)) (pos u) q in
       rw (e, abs-neg (pos (suc a) -ℤ pos u *ℤ q)) (difference (suc a) (u * digit-size p u (suc a)) (1 * u) (omega arith) (omega arith))
 
-  pub select-selects : Selects p u 1 2 (select p u)
+  pub select-selects : Selects p u bound-over bound-under (select p u)
   select-selects = record { small = select-small; left = select-left }

@@ -1,18 +1,50 @@
 -- The theorems on the recurrence, over any radix r, largest digit p, unit u, matrix G, right-hand sides B and residual bound c / e (1/2 in
 -- document 01). `identity` and `distance` hold of every run, whatever rule chose its digits. Cited by the claims about whole jobs.
-use mathlib.Core.Path.{_≡_, _∙_}
+use mathlib.Core.Path.{_≡_, sym, _∙_}
+use mathlib.Core.List.{[], _∷_}
 use Prim.Native.Nat.{ℕ, zero, suc, _+_, _*_, _-_, _<_, _≤_, _^_}
-use native.Mathlib.Nat.{pow-zero, pow-suc, mul-le-mul-left, le-of-mul-le-mul-left}
+use native.Mathlib.Nat.{pow-zero, pow-suc, mul-pos, mul-le-mul-left, le-of-mul-le-mul-left}
 use native.Mathlib.Omega.{arith}
 use lib.IntN.{ℤ, pos, negℤ, natAbs, _+ℤ_, _-ℤ_, _*ℤ_}
 use Rattle.integers.specs.Absolute.{abs-add, abs-mul}
 use Rattle.integers.specs.Product.{dot, weight, dot-lin, dot-none, abs-dot}
 use Rattle.integers.specs.Maximum.{Largest, largest}
+use Rattle.integers.specs.Normal.{solve, polys}
+use Rattle.integers.specs.Sum.{sum-zero, sum-suc, sum-ext, sum-scale}
+use Rattle.job.specs.Rules.{bound-over, bound-under}
 use Rattle.recurrence.specs.System.{Solves}
 use Rattle.recurrence.specs.Selection.{Selects, select, select-selects}
-use Rattle.recurrence.specs.Recurrence.{shifted, next-digit, next-residual, residual, digit, reading, Run, steps-run}
+use Rattle.recurrence.specs.Recurrence.{shifted, next-digit, next-residual, residual, digit, reading, digit-sum, Run, steps-run}
 use Rattle.recurrence.specs.Light.{Light, LightRows, Held}
 use Rattle.recurrence.specs.Row.{identity-first, identity-next, one-more, grown, error-lin, error-row, error-abs, farthest}
+
+-- The reading by Horner is document 01's sum, of any digits.
+pub reading-sum : (r : ℕ) (d : ℕ → ℕ → ℤ) (k i : ℕ) → reading r d k i ≡ digit-sum r d k i
+unfolding reading digit-sum
+reading-sum r d zero i = sym (sum-zero _)
+reading-sum r d (suc k) i =
+    let m : suc k - suc k ≡ 0 = omega arith in
+    rw (
+      sum-suc k (λ j. d (suc j) i *ℤ pos (r ^ (suc k - suc j))),
+      sum-ext k (λ j. d (suc j) i *ℤ pos (r ^ (suc k - suc j))) (λ j. pos r *ℤ (d (suc j) i *ℤ pos (r ^ (k - suc j)))) place,
+      sum-scale k (pos r) (λ j. d (suc j) i *ℤ pos (r ^ (k - suc j))),
+      ← reading-sum r d k i,
+      m,
+      pow-zero r,
+    )
+    (last-place (pos r *ℤ reading r d k i) (d (suc k) i))
+  where
+    higher : (x y z : ℤ) → x *ℤ (y *ℤ z) ≡ z *ℤ (x *ℤ y)
+    higher x y z = solve (x ∷ y ∷ z ∷ []) (search polys depth 12) (search polys depth 12) tt
+
+    -- a step more puts each digit one place higher, and its own in the last place
+    place : (j : ℕ) → j < k → d (suc j) i *ℤ pos (r ^ (suc k - suc j)) ≡ pos r *ℤ (d (suc j) i *ℤ pos (r ^ (k - suc j)))
+    place j l =
+        let e : suc k - suc j ≡ suc (k - suc j) = omega arith in
+        rw (e, pow-suc r (k - suc j)) (higher (d (suc j) i) (pos (r ^ (k - suc j))) (pos r))
+
+    last-place : (x y : ℤ) → x +ℤ y ≡ x +ℤ y *ℤ pos 1
+    last-place x y = solve (x ∷ y ∷ []) (search polys depth 12) (search polys depth 12) tt
 
 -- r^k (b - A y) = z + G d, where A is the identity less G and y are the readings after k steps over r^k: exact, for any digits whatever.
 pub identity : {n r u : ℕ} {G : ℕ → ℕ → ℤ} {B : ℕ → ℤ} {z d y : ℕ → ℕ → ℤ} → Run n r u G B z d y →
@@ -88,17 +120,18 @@ distance {n} {r} hr hc he hu light run sol k h i l =
     let m = largest n (λ j. natAbs (error run sol k j)) (omega arith) in
     omega (arith, error-largest run sol k hr hc he hu light h m, mul-le-mul-left (r - 1) (m .most i l))
 
--- The same of the steps by `select`, with residuals of at most half a unit.
+-- The same of the steps by `select`, with document 01's residual bound.
 pub select-distance : {n r p u D : ℕ} {G : ℕ → ℕ → ℤ} {B N : ℕ → ℤ} → 1 < r → 0 < u →
-    LightRows n r p u 1 2 G → ((i : ℕ) → i < n → 2 * natAbs (B i) ≤ u) → Solves n u D G B N →
+    LightRows n r p u bound-over bound-under G → ((i : ℕ) → i < n → bound-under * natAbs (B i) ≤ bound-over * u) → Solves n u D G B N →
     (k i : ℕ) → i < n → (r - 1) * natAbs (N i *ℤ pos (r ^ k) -ℤ pos D *ℤ reading r (digit n r u (select p u) G B) k i) ≤ p * D
 select-distance {n} {r} {p} {u} {G} {B} hr hu light small sol k i l =
     distance hr (omega arith) (omega arith) hu light (steps-run n r u (select p u) G B) sol k
-    (held B (select-selects p u hu) light (λ j m. omega (arith, small j m)) k) i l
+    (held B (select-selects p u hu) light small k) i l
 
--- Light rows are short: at residuals of at most 1/2 and digits below r, a row weighs at most a quarter of a unit.
-pub short : (r p u S : ℕ) → 2 ≤ r → 1 ≤ p → p ≤ r - 1 → Light r p u 1 2 S → 4 * S ≤ u
-short r p u S hr hp h l =
-    let f : u * suc p ≤ u * r = mul-le-mul-left u (omega arith) in
-    let g : p * S * 2 ≤ p * S * r = mul-le-mul-left (p * S) hr in
-    le-of-mul-le-mul-left {k = p} (omega (arith, l .light)) hp
+-- Light rows are short: with a residual bound of 1/2 or more and digits below r, a row weighs at most a quarter of a unit.
+pub short : (r p u c e S : ℕ) → 2 ≤ r → 1 ≤ p → p ≤ r - 1 → 0 < e → e ≤ 2 * c → Light r p u c e S → 4 * S ≤ u
+short r p u c e S hr hp h he hc l =
+    let f : c * u * suc p ≤ c * u * r = mul-le-mul-left (c * u) (omega arith) in
+    let g : p * u * e ≤ p * u * (2 * c) = mul-le-mul-left (p * u) hc in
+    let k : e * p * S * 2 ≤ e * p * S * r = mul-le-mul-left (e * p * S) hr in
+    le-of-mul-le-mul-left {k = e * p} (omega (arith, l .light)) (mul-pos he hp)

@@ -13,14 +13,15 @@ use Rattle.integers.specs.Absolute.{abs-zero}
 use Rattle.integers.specs.Flat.{at, entry, flat-matrix, at-flat-vector, entry-flat-matrix}
 use Rattle.integers.specs.Product.{weight, weight-ext}
 use Rattle.job.specs.Header.{unit, header-checks}
-use Rattle.job.specs.Limits.{Limits, limits-exactly, steps-small}
+use Rattle.job.specs.Limits.{Limits, limits-exactly, last-small}
 use Rattle.job.specs.Refusal.{first-refusal}
-use Rattle.job.specs.Rows.{light-enough, small-enough}
+use Rattle.job.specs.Rows.{light-enough, small-enough, residual-kept}
+use Rattle.job.specs.Rules.{inner-unit, bound-over, bound-under}
 use Rattle.job.specs.System.{matrix-of, right-side-of}
 use Rattle.job.specs.declared.Header.{Header}
 use Rattle.state.specs.Digits.{all-steps}
 use Rattle.state.specs.Sound.{Sound}
-use Rattle.state.specs.State.{last-step, fresh, header-broken, steps-broken, row-broken, residual-broken, digit-broken, later-digit, breaks-limit}
+use Rattle.state.specs.State.{state-last, state-unit, fresh, header-broken, steps-broken, row-broken, residual-broken, digit-broken, later-digit, breaks-limit}
 use Rattle.state.specs.declared.State.{State}
 use Rattle.state.proofs.Digits.{no-row, beyond-false}
 
@@ -35,17 +36,17 @@ module _ (s : State) where
       none : (r : ℕ) → r ≤ 0 → r ≡ 0
       none r l = omega arith
 
-  steps-kept : (steps-broken s ≡ false) ↔ (s .k ≤ last-step (s .header))
-  steps-kept = (ltb-false (last-step (s .header)) (s .k), le-ltb (last-step (s .header)) (s .k))
+  steps-kept : (steps-broken s ≡ false) ↔ (s .k ≤ state-last s)
+  steps-kept = (ltb-false (state-last s) (s .k), le-ltb (state-last s) (s .k))
 
   rows-kept : (row-broken s ≡ false) ↔ ((i : ℕ) → i < s .header .n → light-enough (s .header) (weight (s .header .n) (entry (s .g) i)) ≡ true)
   rows-kept =
       let r = no-row (s .header .n) (λ i. not (light-enough (s .header) (weight (s .header .n) (entry (s .g) i)))) in
       ((λ e i l. not-false _ (r .0 e .never i l)), (λ h. r .1 (record { never = λ i l. ap not (h i l) })))
 
-  residuals-kept : (residual-broken s ≡ false) ↔ ((i : ℕ) → i < s .header .n → 2 * natAbs (at (s .z) i) ≤ unit (s .header))
+  residuals-kept : (residual-broken s ≡ false) ↔ ((i : ℕ) → i < s .header .n → bound-under * natAbs (at (s .z) i) ≤ bound-over * state-unit s)
   residuals-kept =
-      let r = no-row (s .header .n) (λ i. not (small-enough (s .header) (at (s .z) i))) in
+      let r = no-row (s .header .n) (λ i. not (residual-kept (s .header) (at (s .z) i))) in
       ((λ e i l. leb-true _ _ (not-false _ (r .0 e .never i l))), (λ h. r .1 (record { never = λ i l. ap not (le-leb _ _ (h i l)) })))
 
   digits-kept : (digit-broken s ≡ false) ↔ ((t i : ℕ) → t < s .k → i < s .header .n → natAbs (entry (s .digits) t i) ≤ s .header .p)
@@ -89,7 +90,7 @@ sound-exactly s = (to, of)
           light = rows-kept s .0 (k .2);
           small = residuals-kept s .0 (k .3);
           made = digits-kept s .0 (k .4);
-          later = later-kept s (omega (arith, steps-small (s .header) l)) .0 (k .5);
+          later = later-kept s (omega (arith, last-small (s .header) l)) .0 (k .5);
         }
 
     of : Sound s → breaks-limit s ≡ false
@@ -100,8 +101,12 @@ sound-exactly s = (to, of)
           rows-kept s .1 (p .light),
           residuals-kept s .1 (p .small),
           digits-kept s .1 (p .made),
-          later-kept s (omega (arith, p .steps, steps-small (s .header) (p .limits))) .1 (p .later),
+          later-kept s (omega (arith, p .steps, last-small (s .header) (p .limits))) .1 (p .later),
         )
+
+-- a right-hand side that is small enough is a residual within its bound, as that of 0 steps has to be
+pub start-kept : (h : Header) (B : ℤ) → small-enough h B ≡ true → bound-under * natAbs B ≤ bound-over * inner-unit h
+start-kept h B e = omega (arith, leb-true (2 * natAbs B) (unit h) e)
 
 -- the fresh job of a header and numbers that are accepted is
 pub fresh-sound : (h : Header) (v : List ℤ) → Limits h
@@ -114,7 +119,7 @@ fresh-sound h v l p q =
       limits = l;
       steps = omega arith;
       light = λ i k. rw (same-weight i k) (p i k);
-      small = λ i k. rw (at-flat-vector (h .n) (right-side-of h v) i (l .order-most) k) (leb-true (2 * natAbs (right-side-of h v i)) (unit h) (q i k));
+      small = λ i k. rw (at-flat-vector (h .n) (right-side-of h v) i (l .order-most) k) (start-kept h (right-side-of h v i) (q i k));
       made = λ t i k. absurd (omega arith);
       later = λ t i g k m. getD-replicate 960 (16 * t + i) (pos 0) (pos 0) (omega (arith, l .order-most));
     }

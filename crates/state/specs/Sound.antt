@@ -7,21 +7,21 @@ use Prim.Native.Nat.{ℕ, _*_, _<_, _≤_}
 use lib.IntN.{ℤ, pos, natAbs}
 use Rattle.integers.specs.Flat.{at, entry}
 use Rattle.integers.specs.Product.{weight}
-use Rattle.job.specs.Header.{unit}
 use Rattle.job.specs.Limits.{Limits}
 use Rattle.job.specs.Rows.{light-enough}
+use Rattle.job.specs.Rules.{bound-over, bound-under}
 use Rattle.job.specs.declared.Header.{Header}
 use Rattle.state.specs.Digits.{all-steps}
-use Rattle.state.specs.State.{last-step}
+use Rattle.state.specs.State.{state-last, state-unit}
 use Rattle.state.specs.declared.State.{State}
 
 pub record Sound (s : State) : Type 0 where
   -- the header's fields are within their limits, and k is at most the last step
   pub limits : Limits (s .header)
-  pub steps : s .k ≤ last-step (s .header)
-  -- every row is light enough, and every residual at most 1/2
+  pub steps : s .k ≤ state-last s
+  -- every row is light enough, and every residual within its bound
   pub light : (i : ℕ) → i < s .header .n → light-enough (s .header) (weight (s .header .n) (entry (s .g) i)) ≡ true
-  pub small : (i : ℕ) → i < s .header .n → 2 * natAbs (at (s .z) i) ≤ unit (s .header)
+  pub small : (i : ℕ) → i < s .header .n → bound-under * natAbs (at (s .z) i) ≤ bound-over * state-unit s
   -- the digits of the first k steps are within p, and those after them are 0
   pub made : (t i : ℕ) → t < s .k → i < s .header .n → natAbs (entry (s .digits) t i) ≤ s .header .p
   pub later : (t i : ℕ) → s .k ≤ t → t < all-steps → i < s .header .n → entry (s .digits) t i ≡ pos 0

@@ -9,15 +9,19 @@ use lib.ListN.{replicate}
 use Rattle.integers.specs.Flat.{at, entry, flat-vector, flat-matrix}
 use Rattle.job.specs.Header.{header-checks, zero-header}
 use Rattle.job.specs.Refusal.{Check, first-refusal}
-use Rattle.job.specs.Rows.{heavy-row, large-row}
+use Rattle.job.specs.Rows.{heavy-row, large-residual}
+use Rattle.job.specs.Rules.{last-step, inner-unit}
 use Rattle.job.specs.System.{matrix-of, right-side-of}
 use Rattle.job.specs.declared.Header.{Header}
 use Rattle.state.specs.Digits.{all-steps, beyond}
 use Rattle.state.specs.declared.State.{State}
 
--- the last step of a job
-abbrev pub last-step : Header → ℕ
-last-step h = h .m
+-- the last step of a state's job, and the unit of its residuals
+abbrev pub state-last : State → ℕ
+state-last s = last-step (s .header)
+
+abbrev pub state-unit : State → ℕ
+state-unit s = inner-unit (s .header)
 
 -- every number 0
 unfoldable pub idle-state : State
@@ -51,15 +55,15 @@ header-broken s = ltb 0 (first-refusal (header-checks (s .header)))
 
 -- k above the last step
 abbrev pub steps-broken : State → Bool
-steps-broken s = ltb (last-step (s .header)) (s .k)
+steps-broken s = ltb (state-last s) (s .k)
 
 -- a heavy row
 abbrev pub row-broken : State → Bool
 row-broken s = ltb 0 (heavy-row (s .header) (entry (s .g)))
 
--- |z| above 1/2, which is the test of a right-hand side
+-- |z| above its bound of 1/2
 abbrev pub residual-broken : State → Bool
-residual-broken s = ltb 0 (large-row (s .header) (at (s .z)))
+residual-broken s = ltb 0 (large-residual (s .header) (at (s .z)))
 
 -- a digit beyond p
 abbrev pub digit-broken : State → Bool

@@ -1,5 +1,5 @@
--- Light enough and small enough (document 01, "The system") as one comparison each: a weight with the largest that is light enough, a right side with
--- half a unit. Cited by the proof of `largest_light`, by `Verdict`, and by callers that need a bound on a row.
+-- Light enough, small enough (document 01, "The system") and a residual within its bound as one comparison each: with the largest weight, half a
+-- unit, and the largest residual. Cited by the proofs of `largest_light` and `residual_most`, by `Verdict`, and by callers that need a bound.
 use mathlib.Core.Path.{_≡_, sym, ap, _∙_}
 use mathlib.Core.Bool.{not, Bool·not-not}
 use mathlib.Core.Logic.{_⊎_, inl, inr}
@@ -12,7 +12,8 @@ use lib.IntN.{ℤ, natAbs}
 use Rattle.integers.specs.Maximum.{le-or-lt}
 use Rattle.job.specs.Header.{radix, unit}
 use Rattle.job.specs.Limits.{Limits, radix-least, radix-most, digit-positive, digit-small, unit-most, ltb-quotient}
-use Rattle.job.specs.Rows.{light-enough, small-enough, largest-light}
+use Rattle.job.specs.Rows.{weight-factor, weight-room, light-enough, largest-light, small-enough, residual-kept, residual-most}
+use Rattle.job.specs.Rules.{inner-unit, bound-over, bound-under}
 use Rattle.job.specs.declared.Header.{Header}
 
 -- ---- the numbers on the way to the largest weight
@@ -23,7 +24,7 @@ pub record Sizes (r p u : ℕ) : Type 0 where
   pub r-most : r ≤ 16
   pub p-least : 1 ≤ p
   pub p-most : p ≤ 15
-  pub r-p : r - 1 ≤ 2 * p
+  pub r-p : bound-over * (r - 1) ≤ bound-under * p
   pub u-most : u ≤ 2 ^ 40
 
 pub sizes : {h : Header} → Limits h → Sizes (radix (h .code)) (h .p) (unit h)
@@ -38,22 +39,22 @@ sizes {h} l =
     }
 
 module _ (r p u : ℕ) (s : Sizes r p u) where
-  pub dividend-most : u * (2 * p - (r - 1)) ≤ 2 ^ 40 * 30
-  dividend-most = let l : 2 * p - (r - 1) ≤ 30 = omega arith in mul-le-mul (s .u-most) l
+  pub dividend-most : u * (bound-under * p - bound-over * (r - 1)) ≤ 2 ^ 40 * 30
+  dividend-most = let l : bound-under * p - bound-over * (r - 1) ≤ 30 = omega arith in mul-le-mul (s .u-most) l
 
-  pub divisor-most : 2 * r * p ≤ 480
+  pub divisor-most : bound-under * r * p ≤ 480
   divisor-most = omega (arith, mul-le-mul (s .r-most) (s .p-most))
 
-  pub divisor-least : 0 < 2 * r * p
-  divisor-least = mul-pos {m = 2 * r} {n = p} (omega arith) (omega arith)
+  pub divisor-least : 0 < bound-under * r * p
+  divisor-least = mul-pos {m = bound-under * r} {n = p} (omega arith) (omega arith)
 
   -- the divisor is at least the factor of u
-  pub quotient-most : u * (2 * p - (r - 1)) / (2 * r * p) ≤ 2 ^ 40
+  pub quotient-most : u * (bound-under * p - bound-over * (r - 1)) / (bound-under * r * p) ≤ 2 ^ 40
   quotient-most =
-      let l : 2 * p - (r - 1) ≤ 2 * r * p = omega (arith, mul-le-mul-right p (s .r-least)) in
-      div-le-of-le-mul (2 * r * p) {m = u * (2 * p - (r - 1))} {n = 2 ^ 40} (omega (arith, mul-le-mul (s .u-most) l))
+      let l : bound-under * p - bound-over * (r - 1) ≤ bound-under * r * p = omega (arith, mul-le-mul-right p (s .r-least)) in
+      div-le-of-le-mul (bound-under * r * p) {m = u * (bound-under * p - bound-over * (r - 1))} {n = 2 ^ 40} (omega (arith, mul-le-mul (s .u-most) l))
 
--- ---- the two tests
+-- ---- the three tests
 
 leb-is : (a b : ℕ) → leb a b ≡ not (ltb b a)
 leb-is a b = by-order (le-or-lt a b)
@@ -70,8 +71,7 @@ not-leb a b = ap not (leb-is a b) ∙ Bool·not-not (ltb b a)
 
 -- light enough is at most the largest weight that is
 pub light-is : {h : Header} → Limits h → (S : ℕ) → light-enough h S ≡ leb S (largest-light h)
-light-is {h} l S =
-    leb-quotient (2 * radix (h .code) * h .p) S (unit h * (2 * h .p - (radix (h .code) - 1))) (divisor-least (radix (h .code)) (h .p) (unit h) (sizes l))
+light-is {h} l S = leb-quotient (weight-factor h) S (weight-room h) (divisor-least (radix (h .code)) (h .p) (unit h) (sizes l))
 
 pub largest-light-most : {h : Header} → Limits h → largest-light h ≤ 2 ^ 40
 largest-light-most {h} l = quotient-most (radix (h .code)) (h .p) (unit h) (sizes l)
@@ -79,3 +79,7 @@ largest-light-most {h} l = quotient-most (radix (h .code)) (h .p) (unit h) (size
 -- small enough is at most half a unit
 pub small-is : (h : Header) (B : ℤ) → small-enough h B ≡ leb (natAbs B) (unit h / 2)
 small-is h B = leb-quotient 2 (natAbs B) (unit h) (omega arith)
+
+-- within the bound is at most the largest residual that is
+pub residual-is : (h : Header) (z : ℤ) → residual-kept h z ≡ leb (natAbs z) (residual-most h)
+residual-is h z = leb-quotient bound-under (natAbs z) (bound-over * inner-unit h) (omega arith)

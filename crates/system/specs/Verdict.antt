@@ -15,11 +15,22 @@ use Rattle.integers.specs.Product.{weight, weight-ext}
 use Rattle.job.specs.Header.{unit}
 use Rattle.job.specs.Limits.{Limits}
 use Rattle.job.specs.Refusal.{first-refusal}
-use Rattle.job.specs.Rows.{first-row, light-enough, small-enough, largest-light, heavy-row, large-row, system-verdict}
+use Rattle.job.specs.Rows.{
+  first-row,
+  light-enough,
+  largest-light,
+  small-enough,
+  residual-kept,
+  residual-most,
+  heavy-row,
+  large-row,
+  large-residual,
+  system-verdict,
+}
 use Rattle.job.specs.declared.Header.{Header}
 use Rattle.job.specs.declared.Verdict.{Verdict}
 use Rattle.system.specs.FirstRow.{Never, first-row-none, first-row-ext}
-use Rattle.system.specs.Light.{light-is, small-is, not-leb}
+use Rattle.system.specs.Light.{light-is, small-is, residual-is, not-leb}
 use Rattle.system.specs.Weighing.{too-heavy, too-large}
 
 -- ---- from the two searches
@@ -49,21 +60,24 @@ none-of a b e = by-order (le-or-lt a 0) (le-or-lt b 0)
     by-order (inl p) (inr q) = absurd (omega (arith, ap (λ (v : Verdict). v .refusal) (of-large a b p q)))
     by-order (inr p) q = absurd (omega (arith, ap (λ (v : Verdict). v .refusal) (of-heavy a b p)))
 
--- an array's rows and right sides, searched with a limit L and a bound M
-module _ (h : Header) (l : Limits h) (g z : List ℤ) where
-  heavy-found : (L : ℤ) → L ≡ pos (largest-light h) → first-row (h .n) (too-heavy L (h .n) g) ≡ heavy-row h (entry g)
-  heavy-found L e =
+-- ---- what the searches find: an array's rows with a limit L, and a vector's numbers with a bound M
+
+module _ (h : Header) (g : List ℤ) where
+  pub heavy-found : Limits h → (L : ℤ) → L ≡ pos (largest-light h) → first-row (h .n) (too-heavy L (h .n) g) ≡ heavy-row h (entry g)
+  heavy-found l L e =
       first-row-ext (h .n) (too-heavy L (h .n) g) (λ i. not (light-enough h (weight (h .n) (entry g i))))
       (λ i k. rw (e, light-is l (weight (h .n) (entry g i))) (sym (not-leb (weight (h .n) (entry g i)) (largest-light h))))
 
-  large-found : (M : ℤ) → M ≡ pos (unit h / 2) → first-row (h .n) (too-large M z) ≡ large-row h (at z)
+module _ (h : Header) (z : List ℤ) where
+  pub large-found : (M : ℤ) → M ≡ pos (unit h / 2) → first-row (h .n) (too-large M z) ≡ large-row h (at z)
   large-found M e =
       first-row-ext (h .n) (too-large M z) (λ i. not (small-enough h (at z i)))
       (λ i k. rw (e, small-is h (at z i)) (sym (not-leb (natAbs (at z i)) (unit h / 2))))
 
-  pub both-found : (L : ℤ) (a : ℕ) → L ≡ pos (largest-light h) → a ≡ first-row (h .n) (too-heavy L (h .n) g)
-      → (M : ℤ) (b : ℕ) → M ≡ pos (unit h / 2) → b ≡ first-row (h .n) (too-large M z) → verdict-of a b ≡ system-verdict h (entry g) (at z)
-  both-found L a p s M b q t = ap₂ verdict-of (s ∙ heavy-found L p) (t ∙ large-found M q)
+  pub residual-found : (M : ℤ) → M ≡ pos (residual-most h) → first-row (h .n) (too-large M z) ≡ large-residual h (at z)
+  residual-found M e =
+      first-row-ext (h .n) (too-large M z) (λ i. not (residual-kept h (at z i)))
+      (λ i k. rw (e, residual-is h (at z i)) (sym (not-leb (natAbs (at z i)) (residual-most h))))
 
 -- ---- for callers
 

@@ -1,8 +1,8 @@
--- Rows that are too heavy and right sides that are too large, in arrays: the tests that the contracts of `first_heavy` and `first_large` cite. And
--- the laws that their proofs cite: weighing by the room that is left below a limit, which no i64 breaks.
+-- Rows that are too heavy and numbers of a vector that are too large, in arrays: the tests that the contracts of `first_heavy` and `first_large`
+-- cite. And the laws that their proofs cite: weighing by the room that is left below a limit, which no i64 breaks.
 use mathlib.Core.Path.{_≡_, refl, sym, _∙_}
 use mathlib.Core.Bool.{Bool, true, false}
-use mathlib.Core.List.{List, [], _∷_}
+use mathlib.Core.List.{List}
 use Prim.Native.Nat.{ℕ, zero, suc, _+_, _-_, _<_, _≤_, _^_}
 use native.Mathlib.Nat.{le-refl, add-zero, add-suc}
 use native.Mathlib.Numerals.{add-one}
@@ -17,18 +17,13 @@ use mir.Facts.{toZ-ofZ}
 use Rattle.integers.specs.Parts.{cond-both, parts-add, posPart-neg, negPart-neg}
 use Rattle.integers.specs.Order.{zarith}
 use Rattle.integers.specs.Flat.{at, entry}
-use Rattle.integers.specs.Normal.{solve, polys}
-use Rattle.integers.specs.Product.{weight, weight-zero, weight-suc, weight-le}
+use Rattle.integers.specs.Product.{weight, weight-zero, weight-suc}
 
 abbrev pub too-heavy : ℤ → ℕ → List ℤ → ℕ → Bool
 too-heavy limit n g i = ltb (natAbs limit) (weight n (entry g i))
 
 abbrev pub too-large : ℤ → List ℤ → ℕ → Bool
-too-large half z i = ltb (natAbs half) (natAbs (at z i))
-
--- no entry leaves 42 bits
-abbrev pub SmallEntries : ℕ → List ℤ → Type 0
-SmallEntries n g = (i j : ℕ) → i < n → j < n → natAbs (entry g i j) ≤ 2 ^ 42
+too-large most z i = ltb (natAbs most) (natAbs (at z i))
 
 -- ---- an entry less: numbers that are not negative have a difference that fits
 
@@ -120,41 +115,7 @@ module _ (limit room next : ℤ) (g : ℕ → ℤ) (j : ℕ) (r : Room limit roo
       lt-ltb (natAbs limit) (weight n g)
       (omega (arith, room-gone limit room next (weight j g) (natAbs (g j)) r entry-is (rw next-is at t), weight-suc j g, rw q at (weight-grows (suc j) (n - suc j) g)))
 
-  -- it is left where the weight so far does not pass the limit
-  pub room-kept : weight (j + 1) g ≤ natAbs limit → Room limit (toZ w64 (ofZ w64 next)) (weight (j + 1) g)
-  room-kept l = by-sign (ltZ (toZ w64 (ofZ w64 next)) (pos 0)) refl
-    where
-      by-sign : (b : Bool) → ltZ (toZ w64 (ofZ w64 next)) (pos 0) ≡ b → Room limit (toZ w64 (ofZ w64 next)) (weight (j + 1) g)
-      by-sign false t = room-next t
-      by-sign true t =
-          absurd (omega (arith, room-gone limit room next (weight j g) (natAbs (g j)) r entry-is (rw next-is at t), weight-suc j g, rw add-one at l))
-
--- ---- rows of small entries: 2^47 is more than one of them weighs
-
-pub small-weight : (n : ℕ) (g : List ℤ) (i j : ℕ) → n ≤ 16 → SmallEntries n g → i < n → j ≤ n → weight j (entry g i) ≤ 2 ^ 47
-small-weight n g i j h s l m = omega (arith, weight-le j (entry g i) (2 ^ 42) (λ k q. s i k l (omega arith)))
-
--- what a part of a row weighs, from the room that it leaves
-module _ (room : ℤ) (w : ℕ) (r : Room (pos (2 ^ 47)) room w) where
-  taken-off : (room : ℤ) → Room (pos (2 ^ 47)) room w → pos (2 ^ 47) -ℤ room ≡ pos w
-  taken-off (pos a) r = let e : a + w ≡ 2 ^ 47 = r .is in rw (← e) (back (pos a) (pos w))
-    where
-      back : (a b : ℤ) → (a +ℤ b) -ℤ a ≡ b
-      back a b = solve (a ∷ b ∷ []) (search polys depth 9) (search polys depth 9) tt
-  taken-off (negsuc a) r = absurd (r .left .le)
-
-  pub weighed-fits : SFits w64 (pos (2 ^ 47) -ℤ room)
-  weighed-fits = rw (taken-off room r) (record { sfits = omega (arith, r .is) })
-
-  -- compared with a limit L
-  pub weighed : (L : ℤ) → pos 0 ≤ℤ L → (b : Bool) → ltZ L (toZ w64 (ofZ w64 (pos (2 ^ 47) -ℤ room))) ≡ b → ltb (natAbs L) w ≡ b
-  weighed L h b t = compared L h (rw (toZ-ofZ weighed-fits, taken-off room r) at t)
-    where
-      compared : (L : ℤ) → pos 0 ≤ℤ L → ltZ L (pos w) ≡ b → ltb (natAbs L) w ≡ b
-      compared (pos l) h t = t
-      compared (negsuc l) h t = absurd (h .le)
-
--- ---- a right side above a bound
+-- ---- a number above a bound
 
 below-is : (bound e : ℤ) → pos 0 ≤ℤ bound → ltZ bound e ≡ false → ltZ e (negℤ bound) ≡ ltb (natAbs bound) (natAbs e)
 below-is (pos a) (pos b) h t = below-zero a ∙ sym t

@@ -1,6 +1,6 @@
-// Setting up the system of a job from its numbers, and weighing it (document 01, "The system"; refusals 8 and 9). A matrix is an array of 256
-// with row i, column j at 16 * i + j, a vector an array of 16. Rows and columns count from 0 here, and only row numbers that are given
-// count from 1. Past the order n an array holds zeros.
+// Setting up the system of a job from its numbers, and weighing it (document 01, "The system"; refusals 8 and 9). A matrix is an array
+// of 256 with row i, column j at 16 * i + j, a vector an array of 16. Rows and columns count from 0 here, and only row numbers that are
+// given count from 1. Past the order n an array holds zeros.
 ghost use mathlib.Core.Path.{_≡_};
 ghost use mathlib.Core.Bool.{cond};
 ghost use Prim.Native.Nat.{_+_, _*_, _/_, _<_, _≤_, _^_};
@@ -10,13 +10,23 @@ ghost use lib.ListN.{length};
 ghost use lib.Signed.{_≤ℤ_};
 ghost use Rattle.integers.specs.Absolute.{Within};
 ghost use Rattle.integers.specs.Flat.{at, entry, flat-vector, flat-matrix, stores};
-ghost use Rattle.job.specs.Header.{count-of};
+ghost use Rattle.job.specs.Header.{count};
+ghost use Rattle.job.specs.Kind.{kind-of};
 ghost use Rattle.job.specs.Limits.{Limits};
-ghost use Rattle.job.specs.Rows.{first-row, largest-light, system-verdict};
-ghost use Rattle.job.specs.System.{argument, denominator, no-denominator, curve-entry, system-entry, matrix, right-side};
-ghost use Rattle.system.specs.Numbers.{Numbers, right-place};
+ghost use Rattle.job.specs.Rows.{first-row, largest-light, residual-most, heavy-row, large-row, large-residual, system-verdict};
+ghost use Rattle.job.specs.System.{
+  argument,
+  denominator,
+  no-denominator,
+  curve-entry,
+  system-entry,
+  matrix-of,
+  right-place,
+  right-side-of,
+};
+ghost use Rattle.system.specs.Numbers.{Numbers};
 ghost use Rattle.system.specs.Verdict.{verdict-of};
-ghost use Rattle.system.specs.Weighing.{too-heavy, too-large, SmallEntries};
+ghost use Rattle.system.specs.Weighing.{too-heavy, too-large};
 use job::Header;
 use job::Verdict;
 
@@ -94,33 +104,35 @@ fn system_matrix(n: usize, u: u64, v: &[i64]) -> [i64; 256]
     g
 }
 
-// The matrix G of a job with n rows, from the numbers as they are sent.
-pub fn matrix(kind: usize, n: usize, f: usize, v: &[i64]) -> [i64; 256]
-    requires { ⌜ (1 ≤ n) × (n ≤ 16) × (f ≤ 40) × Numbers (count-of kind n) (now v) ⌝ }
-    ensures { λ r. ⌜ r ≡ flat-matrix n (matrix kind n (2 ^ f) (now (v .entry))) ⌝ }
+// The matrix G of a job, from the numbers as they are sent.
+pub fn matrix(h: Header, v: &[i64]) -> [i64; 256]
+    requires { ⌜ Limits h × Numbers (count h) (now v) ⌝ }
+    ensures { λ r. ⌜ r ≡ flat-matrix (h .n) (matrix-of h (now (v .entry))) ⌝ }
 {
-    if kind == 0 {
-        return polynomial_matrix(n, v[0]);
+    if h.kind == 0 {
+        return polynomial_matrix(h.n, v[0]);
     }
-    if kind == 1 {
-        return rational_matrix(n, v);
+    if h.kind == 1 {
+        return rational_matrix(h.n, v);
     }
-    system_matrix(n, unit(f), v)
+    system_matrix(h.n, unit(h.f), v)
 }
 
-// Where among the numbers the right side of row i stands.
+// Where among the numbers the right-hand side of row i stands.
 fn right_place(kind: usize, n: usize, i: usize) -> usize
-    requires { ⌜ (i < n) × (n ≤ 16) ⌝ }
-    ensures { λ r. ⌜ r ≡ right-place kind n i ⌝ }
+    requires { ⌜ (kind ≤ 2) × (i < n) × (n ≤ 16) ⌝ }
+    ensures { λ r. ⌜ r ≡ right-place (kind-of kind) n i ⌝ }
 {
     if kind < 2 { 1 + i } else { i * (n + 1) + n }
 }
 
-// The right sides of a job with n rows, from the numbers as they are sent.
-pub fn right_sides(kind: usize, n: usize, v: &[i64]) -> [i64; 16]
-    requires { ⌜ (n ≤ 16) × (count-of kind n ≤ length (now v)) ⌝ }
-    ensures { λ r. ⌜ r ≡ flat-vector n (right-side kind n (now (v .entry))) ⌝ }
+// The right-hand sides of a job, from the numbers as they are sent.
+pub fn right_sides(h: Header, v: &[i64]) -> [i64; 16]
+    requires { ⌜ Limits h × (count h ≤ length (now v)) ⌝ }
+    ensures { λ r. ⌜ r ≡ flat-vector (h .n) (right-side-of h (now (v .entry))) ⌝ }
 {
+    let kind = h.kind;
+    let n = h.n;
     let mut z = [0i64; 16];
     let mut i: usize = 0;
     while i < n {
@@ -130,7 +142,7 @@ pub fn right_sides(kind: usize, n: usize, v: &[i64]) -> [i64; 16]
     z
 }
 
-// The largest right side that is small enough.
+// The largest right-hand side that is small enough.
 fn half_unit(f: usize) -> i64
     requires { ⌜ f ≤ 40 ⌝ }
     ensures { λ r. ⌜ r ≡ pos (2 ^ f / 2) ⌝ }
@@ -138,14 +150,27 @@ fn half_unit(f: usize) -> i64
     integers::to_signed(unit(f) / 2)
 }
 
+// The residual bound of document 01, 1/2: residuals stay within OVER / UNDER, and the rule of light rows follows from it.
+const OVER: u64 = 1;
+
+const UNDER: u64 = 2;
+
+// The largest residual that is within its bound.
+fn residual_most(h: Header) -> i64
+    requires { ⌜ Limits h ⌝ }
+    ensures { λ r. ⌜ r ≡ pos (residual-most h) ⌝ }
+{
+    integers::to_signed(OVER * unit(job::inner_bits(h)) / UNDER)
+}
+
 // The largest weight that is light enough.
-pub fn largest_light(h: Header) -> i64
+fn largest_light(h: Header) -> i64
     requires { ⌜ Limits h ⌝ }
     ensures { λ r. ⌜ r ≡ pos (largest-light h) ⌝ }
 {
     let r = job::radix(h.code) as u64;
     let p = h.p as u64;
-    integers::to_signed(unit(h.f) * (2 * p - (r - 1)) / (2 * r * p))
+    integers::to_signed(unit(h.f) * (UNDER * p - OVER * (r - 1)) / (UNDER * r * p))
 }
 
 // The room that is left after an entry e: its magnitude is taken off, for any i64, since the room before it is not negative.
@@ -180,30 +205,6 @@ fn first_heavy(g: &[i64; 256], n: usize, limit: i64) -> usize
     heavy
 }
 
-// The same of a matrix whose entries are small, as those that a frame makes are. A row is weighed whole, so that the machine takes several entries at
-// once: no row uses up the room that it starts with.
-fn first_heavy_small(g: &[i64; 256], n: usize, limit: i64) -> usize
-    requires { ⌜ (n ≤ 16) × (pos 0 ≤ℤ limit) × SmallEntries n (now g) ⌝ }
-    ensures { λ r. ⌜ r ≡ first-row n (too-heavy limit n (now (g .entry))) ⌝ }
-{
-    let mut heavy: usize = 0;
-    let mut i: usize = 0;
-    'rows: while i < n {
-        let mut left: i64 = 140737488355328;
-        let mut j: usize = 0;
-        while j < n {
-            left = room_after(left, g[16 * i + j]);
-            j += 1;
-        }
-        if limit < 140737488355328 - left {
-            heavy = i + 1;
-            break 'rows;
-        }
-        i += 1;
-    }
-    heavy
-}
-
 // Whether the magnitude of e is above the bound, for any i64.
 fn above(e: i64, bound: i64) -> bool
     requires { ⌜ pos 0 ≤ℤ bound ⌝ }
@@ -212,14 +213,14 @@ fn above(e: i64, bound: i64) -> bool
     if bound < e { true } else { e < 0 - bound }
 }
 
-// The number, from 1, of the first row whose right side is of a magnitude above half; 0 where none is.
-fn first_large(z: &[i64; 16], n: usize, half: i64) -> usize
-    requires { ⌜ (n ≤ 16) × (pos 0 ≤ℤ half) ⌝ }
-    ensures { λ r. ⌜ r ≡ first-row n (too-large half (now (z .entry))) ⌝ }
+// The number, from 1, of the first row whose number is of a magnitude above the bound; 0 where none is.
+fn first_large(z: &[i64; 16], n: usize, most: i64) -> usize
+    requires { ⌜ (n ≤ 16) × (pos 0 ≤ℤ most) ⌝ }
+    ensures { λ r. ⌜ r ≡ first-row n (too-large most (now (z .entry))) ⌝ }
 {
     let mut i: usize = 0;
     while i < n {
-        if above(z[i], half) {
+        if above(z[i], most) {
             return i + 1;
         }
         i += 1;
@@ -227,7 +228,32 @@ fn first_large(z: &[i64; 16], n: usize, half: i64) -> usize
     0
 }
 
-// Refusals 8 and 9, with the row that is given, from the first heavy row and the first large right side: all weights come before any right side.
+// The number of the first row that is too heavy, of any matrix; 0 where none is. Refusal 8 of a frame and its limit under 24 of a state.
+pub fn heavy_row(g: &[i64; 256], h: Header) -> usize
+    requires { ⌜ Limits h ⌝ }
+    ensures { λ r. ⌜ r ≡ heavy-row h (entry (now (g .entry))) ⌝ }
+{
+    first_heavy(g, h.n, largest_light(h))
+}
+
+// The number of the first row whose right-hand side is too large; 0 where none is.
+fn large_row(z: &[i64; 16], h: Header) -> usize
+    requires { ⌜ Limits h ⌝ }
+    ensures { λ r. ⌜ r ≡ large-row h (at (now (z .entry))) ⌝ }
+{
+    first_large(z, h.n, half_unit(h.f))
+}
+
+// The number of the first row whose residual is above its bound; 0 where none is.
+pub fn large_residual(z: &[i64; 16], h: Header) -> usize
+    requires { ⌜ Limits h ⌝ }
+    ensures { λ r. ⌜ r ≡ large-residual h (at (now (z .entry))) ⌝ }
+{
+    first_large(z, h.n, residual_most(h))
+}
+
+// Refusals 8 and 9, with the row that is given, from the first heavy row and the first large right-hand side: all weights come before any
+// right-hand side.
 fn verdict_of(heavy: usize, large: usize) -> Verdict
     ensures { λ r. ⌜ r ≡ verdict-of heavy large ⌝ }
 {
@@ -246,24 +272,10 @@ fn verdict_of(heavy: usize, large: usize) -> Verdict
     Verdict { refusal: 0, row: 0 }
 }
 
-// Refusals 8 and 9 of any matrix and right sides.
+// Refusals 8 and 9 of a matrix and right-hand sides.
 pub fn verdict<'a>(g: &'a [i64; 256], z: &'a [i64; 16], h: Header) -> Verdict
     requires { ⌜ Limits h ⌝ }
     ensures { λ r. ⌜ r ≡ system-verdict h (entry (now (g .entry))) (at (now (z .entry))) ⌝ }
 {
-    let n = h.n;
-    let heavy = first_heavy(g, n, largest_light(h));
-    let large = first_large(z, n, half_unit(h.f));
-    verdict_of(heavy, large)
-}
-
-// Refusals 8 and 9 of a matrix whose entries are small.
-pub fn verdict_small<'a>(g: &'a [i64; 256], z: &'a [i64; 16], h: Header) -> Verdict
-    requires { ⌜ Limits h × SmallEntries (h .n) (now g) ⌝ }
-    ensures { λ r. ⌜ r ≡ system-verdict h (entry (now (g .entry))) (at (now (z .entry))) ⌝ }
-{
-    let n = h.n;
-    let heavy = first_heavy_small(g, n, largest_light(h));
-    let large = first_large(z, n, half_unit(h.f));
-    verdict_of(heavy, large)
+    verdict_of(heavy_row(g, h), large_row(z, h))
 }

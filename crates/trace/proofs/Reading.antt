@@ -11,10 +11,11 @@ use lib.IntN.{ℤ}
 use lib.ListN.{length, take, drop, length-drop}
 use lib.Seq.{take-all}
 use Rattle.bitfields.specs.Layout.{bytes-for, field, fill}
-use Rattle.job.specs.Header.{read-checks}
-use Rattle.job.specs.Limits.{Limits, steps-small}
+use Rattle.job.specs.Header.{trace-read-checks}
+use Rattle.job.specs.Limits.{Limits, trace-small}
 use Rattle.job.specs.Refusal.{first-refusal, None, none, also, accepted-before, accepted-exactly, refused-before}
 use Rattle.job.specs.declared.Header.{Header}
+use Rattle.job.specs.Rules.{trace-steps}
 use Rattle.frame.specs.Frame.{header-of}
 use Rattle.frame.specs.Valid.{header-is}
 use Rattle.trace.specs.Trace.{digit-beyond, wrong-length, fill-bit-set, trace-digits, steps-of, trace-checks, read-answer}
@@ -25,8 +26,8 @@ use Rattle.trace.proofs.Steps.{place-small}
 
 -- ---- sizes
 
-pub digits-most : {h : Header} {k : ℕ} → Limits h → k ≤ h .m → h .n * k ≤ 960
-digits-most {h} {k} l g = place-small (h .n) k (l .order-most) (omega (arith, steps-small h l))
+pub digits-most : {h : Header} {k : ℕ} → Limits h → k ≤ trace-steps h → h .n * k ≤ 960
+digits-most {h} {k} l g = place-small (h .n) k (l .order-most) (omega (arith, trace-small h l))
 
 -- of any number of 6 bits
 pub digits-few : {h : Header} {k : ℕ} → Limits h → k < 64 → h .n * k ≤ 1008
@@ -35,25 +36,25 @@ digits-few {h} {k} l g = mul-le-mul {n₁ = h .n} {m₁ = k} {n₂ = 16} {m₂ =
 -- ---- 10, 6, 7
 
 module _ (h : Header) (k : ℕ) (b : List ℕ) where
-  pub size-steps : h .m < k → 10 ≡ first-refusal (size-checks h k (part-wrong-length h k b) (part-fill-bit-set h k b))
-  size-steps l = rw (lt-ltb (h .m) k l)
+  pub size-steps : trace-steps h < k → 10 ≡ first-refusal (size-checks h k (part-wrong-length h k b) (part-fill-bit-set h k b))
+  size-steps l = rw (lt-ltb (trace-steps h) k l)
 
-  pub size-length : k ≤ h .m → (length b ≡ bytes-for (part-bits h k) → ⊥) → 6 ≡ first-refusal (size-checks h k (part-wrong-length h k b) (part-fill-bit-set h k b))
-  size-length l g = rw (le-ltb (h .m) k l, ne-eqb (length b) (bytes-for (part-bits h k)) g)
+  pub size-length : k ≤ trace-steps h → (length b ≡ bytes-for (part-bits h k) → ⊥) → 6 ≡ first-refusal (size-checks h k (part-wrong-length h k b) (part-fill-bit-set h k b))
+  size-length l g = rw (le-ltb (trace-steps h) k l, ne-eqb (length b) (bytes-for (part-bits h k)) g)
 
-  module _ (t : Bool) (l : k ≤ h .m) (g : length b ≡ bytes-for (part-bits h k)) (e : t ≡ eqb (field b (part-bits h k) (fill (part-bits h k))) 0) where
+  module _ (t : Bool) (l : k ≤ trace-steps h) (g : length b ≡ bytes-for (part-bits h k)) (e : t ≡ eqb (field b (part-bits h k) (fill (part-bits h k))) 0) where
     pub size-fill : not t ≡ true → 7 ≡ first-refusal (size-checks h k (part-wrong-length h k b) (part-fill-bit-set h k b))
-    size-fill n = rw (le-ltb (h .m) k l, eq-eqb (length b) (bytes-for (part-bits h k)) g, ← e, n)
+    size-fill n = rw (le-ltb (trace-steps h) k l, eq-eqb (length b) (bytes-for (part-bits h k)) g, ← e, n)
 
     pub size-right : not t ≡ false → 0 ≡ first-refusal (size-checks h k (part-wrong-length h k b) (part-fill-bit-set h k b))
-    size-right n = rw (le-ltb (h .m) k l, eq-eqb (length b) (bytes-for (part-bits h k)) g, ← e, n)
+    size-right n = rw (le-ltb (trace-steps h) k l, eq-eqb (length b) (bytes-for (part-bits h k)) g, ← e, n)
 
   -- a part that they let through
-  size-none : None (size-checks h k (part-wrong-length h k b) (part-fill-bit-set h k b)) → (k ≤ h .m) × (length b ≡ bytes-for (part-bits h k))
-  size-none (also t₁₀ (also t₆ (also t₇ none))) = (nltb→le (h .m) k t₁₀, equal (length b) (bytes-for (part-bits h k)) t₆)
+  size-none : None (size-checks h k (part-wrong-length h k b) (part-fill-bit-set h k b)) → (k ≤ trace-steps h) × (length b ≡ bytes-for (part-bits h k))
+  size-none (also t₁₀ (also t₆ (also t₇ none))) = (nltb→le (trace-steps h) k t₁₀, equal (length b) (bytes-for (part-bits h k)) t₆)
 
   pub size-facts : (c : ℕ) → c ≡ first-refusal (size-checks h k (part-wrong-length h k b) (part-fill-bit-set h k b)) → c ≤ 0
-      → (k ≤ h .m) × (length b ≡ bytes-for (part-bits h k))
+      → (k ≤ trace-steps h) × (length b ≡ bytes-for (part-bits h k))
   size-facts c r z =
       let y : first-refusal (size-checks h k (part-wrong-length h k b) (part-fill-bit-set h k b)) ≡ 0 = omega arith in
       size-none (accepted-exactly (size-checks h k (part-wrong-length h k b) (part-fill-bit-set h k b)) tt .0 y)
@@ -98,21 +99,21 @@ pub read-short : (s : List ℕ) → length s < 4 → refused-by 1 ≡ read-answe
 unfolding read-answer trace-checks
 read-short s l = rw (lt-ltb (length s) 4 l)
 
-module _ (s : List ℕ) (h : Header) (c : ℕ) (l : 4 ≤ length s) (e : h ≡ header-of s) (r : c ≡ first-refusal (read-checks h)) where
+module _ (s : List ℕ) (h : Header) (c : ℕ) (l : 4 ≤ length s) (e : h ≡ header-of s) (r : c ≡ first-refusal (trace-read-checks h)) where
   pub read-header : 0 < c → refused-by c ≡ read-answer s
   unfolding read-answer trace-checks
   read-header z =
       let g = header-of s in
       let rest = rest-checks g (steps-of s) (wrong-length s) (fill-bit-set s) (trace-digits s) in
-      rw (le-ltb (length s) 4 l, refused-before (read-checks g) rest c z (rw e at (sym r)), ne-eqb c 0 (λ e. omega arith))
+      rw (le-ltb (length s) 4 l, refused-before (trace-read-checks g) rest c z (rw e at (sym r)), ne-eqb c 0 (λ e. omega arith))
 
   pub read-limited : c ≤ 0 → Limits h
   read-limited z =
-      let y : first-refusal (read-checks h) ≡ 0 = omega arith in
+      let y : first-refusal (trace-read-checks h) ≡ 0 = omega arith in
       rw (← e) at (header-is s .0 (rw e at y))
 
   -- a part to the end is what is left of the list
   pub read-rest : (a : Recorded) → c ≤ 0 → a ≡ part-answer h (take (length s - 3) (drop 3 s)) → a ≡ read-answer s
   read-rest a z f =
-      let y : first-refusal (read-checks h) ≡ 0 = omega arith in
+      let y : first-refusal (trace-read-checks h) ≡ 0 = omega arith in
       f ∙ rw (take-all (length s - 3) (drop 3 s) (rw length-drop (omega arith))) (ap (λ (g : Header). part-answer g (drop 3 s)) e ∙ part-whole s l (rw e at y))

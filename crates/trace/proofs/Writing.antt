@@ -17,10 +17,11 @@ use Rattle.bitfields.specs.Twos.{encode, AllFit}
 use Rattle.bitfields.proofs.Spelling.{bits-each, bits-append, bits-one, fit-append, number-append, number-lt, number-one}
 use Rattle.bitfields.proofs.Writing.{put-one, put-written, put-zero}
 use Rattle.bitfields.proofs.Twos.{fit-encodes}
-use Rattle.job.specs.Header.{header-checks}
-use Rattle.job.specs.Limits.{Limits, limits-exactly}
+use Rattle.job.specs.Header.{trace-header-checks}
+use Rattle.job.specs.Limits.{Limits, trace-limits}
 use Rattle.job.specs.Refusal.{Check, first-refusal, accepted-before, refused-before}
 use Rattle.job.specs.declared.Header.{Header}
+use Rattle.job.specs.Rules.{trace-steps}
 use Rattle.frame.specs.Frame.{header-fields}
 use Rattle.frame.specs.RoundTrip.{fit-header}
 use Rattle.trace.specs.Trace.{digit-list, trace-fields, trace-length, too-many-steps, digit-beyond, buffer-too-short, writer-checks, writer-refusal, write-answer, write-buffer}
@@ -170,34 +171,34 @@ head-small x l e = rw e (number-lt (fit-header l))
 
 -- ---- the refusals: 2, 14, 3, 4, 5, 10, 11, 23
 
-module _ (h : Header) (k : ℕ) (ds : List ℤ) (room c : ℕ) (r : c ≡ first-refusal (header-checks h)) where
+module _ (h : Header) (k : ℕ) (ds : List ℤ) (room c : ℕ) (r : c ≡ first-refusal (trace-header-checks h)) where
   abbrev rest : List Check
   rest = (10, too-many-steps h k) ∷ (11, digit-beyond h k ds) ∷ (23, buffer-too-short (record-of h k ds) room) ∷ []
 
   pub refused-header : 0 < c → c ≡ first-refusal (writer-checks (record-of h k ds) room)
   unfolding writer-checks
-  refused-header z = sym (refused-before (header-checks h) rest c z (sym r))
+  refused-header z = sym (refused-before (trace-header-checks h) rest c z (sym r))
 
   module _ (z : c ≤ 0) where
     pub header-limits : Limits h
-    header-limits = limits-exactly h .0 (omega arith)
+    header-limits = trace-limits h .0 (omega arith)
 
     rest-decides : first-refusal (writer-checks (record-of h k ds) room) ≡ first-refusal rest
     unfolding writer-checks
-    rest-decides = accepted-before (header-checks h) rest tt (omega arith)
+    rest-decides = accepted-before (trace-header-checks h) rest tt (omega arith)
 
-    pub refused-steps : h .m < k → 10 ≡ first-refusal (writer-checks (record-of h k ds) room)
-    refused-steps l = rw (rest-decides, lt-ltb (h .m) k l)
+    pub refused-steps : trace-steps h < k → 10 ≡ first-refusal (writer-checks (record-of h k ds) room)
+    refused-steps l = rw (rest-decides, lt-ltb (trace-steps h) k l)
 
-    module _ (t : Bool) (l : k ≤ h .m) (e : t ≡ digit-beyond h k ds) where
+    module _ (t : Bool) (l : k ≤ trace-steps h) (e : t ≡ digit-beyond h k ds) where
       pub refused-digit : t ≡ true → 11 ≡ first-refusal (writer-checks (record-of h k ds) room)
-      refused-digit f = rw (rest-decides, le-ltb (h .m) k l, ← e, f)
+      refused-digit f = rw (rest-decides, le-ltb (trace-steps h) k l, ← e, f)
 
       pub refused-room : (n : ℕ) → t ≡ false → n ≡ trace-length h k → room < n → 23 ≡ first-refusal (writer-checks (record-of h k ds) room)
-      refused-room n f g q = rw (rest-decides, le-ltb (h .m) k l, ← e, f, lt-ltb room (trace-length h k) (rw g at q))
+      refused-room n f g q = rw (rest-decides, le-ltb (trace-steps h) k l, ← e, f, lt-ltb room (trace-length h k) (rw g at q))
 
       pub refused-not : (n : ℕ) → t ≡ false → n ≡ trace-length h k → n ≤ room → 0 ≡ first-refusal (writer-checks (record-of h k ds) room)
-      refused-not n f g q = rw (rest-decides, le-ltb (h .m) k l, ← e, f, le-ltb room (trace-length h k) (rw g at q))
+      refused-not n f g q = rw (rest-decides, le-ltb (trace-steps h) k l, ← e, f, le-ltb room (trace-length h k) (rw g at q))
 
 -- ---- what the writer answers and leaves
 

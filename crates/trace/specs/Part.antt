@@ -13,7 +13,7 @@ use lib.ListN.{length, drop, length-drop}
 use Rattle.bitfields.specs.Layout.{field, fill, bytes-for}
 use Rattle.bitfields.specs.Twos.{decode, numbers}
 use Rattle.bitfields.proofs.Reading.{field-drop, run-drop}
-use Rattle.job.specs.Header.{read-checks}
+use Rattle.job.specs.Header.{trace-read-checks}
 use Rattle.job.specs.Refusal.{Check, first-refusal, accepted-before}
 use Rattle.job.specs.declared.Header.{Header}
 use Rattle.frame.specs.Frame.{header-of}
@@ -81,13 +81,13 @@ wrong-size h k a b ds es = by-test (too-many-steps h k) (record-of h k ds) (reco
     by-test false x y = refl
 
 -- a header that is not refused: the rest decides
-whole-rest : (s : List ℕ) → 4 ≤ length s → first-refusal (read-checks (header-of s)) ≡ 0
+whole-rest : (s : List ℕ) → 4 ≤ length s → first-refusal (trace-read-checks (header-of s)) ≡ 0
     → read-answer s ≡ rest-answer (header-of s) (steps-of s) (wrong-length s) (fill-bit-set s) (trace-digits s)
 unfolding read-answer rest-answer trace-checks trace-record
 whole-rest s l e =
     let h = header-of s in
     let rest = rest-checks h (steps-of s) (wrong-length s) (fill-bit-set s) (trace-digits s) in
-    rw (le-ltb (length s) 4 l, accepted-before (read-checks h) rest tt e)
+    rw (le-ltb (length s) 4 l, accepted-before (trace-read-checks h) rest tt e)
 
 three-more : (x : ℕ) → bytes-for (30 + x) ≡ 3 + bytes-for (6 + x)
 three-more x = omega arith
@@ -122,7 +122,7 @@ module _ (s : List ℕ) (l : 4 ≤ length s) where
       let b : length part ≡ bytes-for (part-bits h k) → ⊥ = λ q. eqb-false (length s) (trace-length h k) e (omega (arith, length-drop 3 s, three-more (5 * (h .n * k)))) in
       rw (e, ne-eqb (length part) (bytes-for (part-bits h k)) b) (wrong-size h k _ _ _ _)
 
-  pub part-whole : first-refusal (read-checks (header-of s)) ≡ 0 → part-answer (header-of s) part ≡ read-answer s
+  pub part-whole : first-refusal (trace-read-checks (header-of s)) ≡ 0 → part-answer (header-of s) part ≡ read-answer s
   part-whole e =
       let h = header-of s in
       ap (λ (k : ℕ). rest-answer h k (part-wrong-length h k part) (part-fill-bit-set h k part) (part-digits h k part)) steps-same

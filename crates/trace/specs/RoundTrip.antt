@@ -12,11 +12,11 @@ use Rattle.bitfields.proofs.Spelling.{bits-each, bytes-fit, fit-append, sum-rep
 use Rattle.bitfields.proofs.Writing.{write-framed}
 use Rattle.bitfields.proofs.RoundTrip.{fields-write, write-fields}
 use Rattle.bitfields.proofs.Twos.{fit-encodes, fields-numbers, length-numbers, numbers-after}
-use Rattle.job.specs.Limits.{Limits, steps-small}
+use Rattle.job.specs.Limits.{Limits, trace-small}
 use Rattle.job.specs.declared.Header.{Header}
 use Rattle.frame.specs.Frame.{header-fields, header-of}
 use Rattle.frame.specs.RoundTrip.{fit-header, header-spelled}
-use Rattle.state.specs.State.{last-step}
+use Rattle.job.specs.Rules.{trace-steps}
 use Rattle.state.specs.declared.State.{State}
 use Rattle.trace.specs.Trace.{digit-list, digit-array, trace-fields, trace-bits, trace-length, steps-of, trace-digits, trace-record, state-record, record-fields}
 use Rattle.trace.specs.Digits.{entry-kept, length-digit-list, list-array}
@@ -43,8 +43,8 @@ widths-trace h k ds =
     rw (widths-each 5 (map (encode 5) (digit-list (h .n) k ds)), length-map (digit-list (h .n) k ds) (encode 5), length-digit-list (h .n) k ds)
 
 -- the header and the steps, and the whole
-pub fit-head : {h : Header} {k : ℕ} → Limits h → k ≤ last-step h → Fit (header-fields h ++ ((6, k) ∷ []))
-fit-head {h} {k} l g = fit-append (fit-header l) (more {w = 6} {v = k} (omega (arith, steps-small h l)) none)
+pub fit-head : {h : Header} {k : ℕ} → Limits h → k ≤ trace-steps h → Fit (header-fields h ++ ((6, k) ∷ []))
+fit-head {h} {k} l g = fit-append (fit-header l) (more {w = 6} {v = k} (omega (arith, trace-small h l)) none)
 
 fit-trace : {t : Record} → Valid t → Fit (record-fields t)
 fit-trace a = fit-append (fit-head (a .limits) (a .steps)) (fit-encodes (omega arith) (fit-digits a))

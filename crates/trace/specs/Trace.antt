@@ -9,12 +9,13 @@ use lib.ListN.{length, replicate}
 use Rattle.integers.specs.Flat.{at, entry, list-from}
 use Rattle.bitfields.specs.Layout.{Field, each, field, fill, bytes-for, write, written}
 use Rattle.bitfields.specs.Twos.{encode, numbers}
-use Rattle.job.specs.Header.{read-checks, header-checks, zero-header}
+use Rattle.job.specs.Header.{trace-read-checks, trace-header-checks, zero-header}
 use Rattle.job.specs.Refusal.{Check, first-refusal}
 use Rattle.job.specs.declared.Header.{Header}
 use Rattle.frame.specs.Frame.{header-fields, header-of}
 use Rattle.state.specs.Digits.{beyond}
-use Rattle.state.specs.State.{last-step, state-checks}
+use Rattle.state.specs.State.{state-checks}
+use Rattle.job.specs.Rules.{trace-steps}
 use Rattle.state.specs.declared.State.{State}
 use Rattle.trace.specs.declared.Record.{Record}
 use Rattle.trace.specs.declared.Recorded.{Recorded}
@@ -55,7 +56,7 @@ too-short s = ltb (length s) 4
 
 -- 10
 abbrev pub too-many-steps : Header → ℕ → Bool
-too-many-steps h k = ltb (last-step h) k
+too-many-steps h k = ltb (trace-steps h) k
 
 -- 6
 abbrev pub wrong-length : List ℕ → Bool
@@ -71,7 +72,7 @@ digit-beyond h k ds = beyond (h .n) (h .p) ds 0 k
 
 unfoldable pub trace-checks : List ℕ → List Check
 trace-checks s =
-    (1, too-short s) ∷ read-checks (header-of s)
+    (1, too-short s) ∷ trace-read-checks (header-of s)
     ++ ((10, too-many-steps (header-of s) (steps-of s)) ∷ (6, wrong-length s) ∷ (7, fill-bit-set s)
     ∷ (11, digit-beyond (header-of s) (steps-of s) (trace-digits s)) ∷ [])
 
@@ -112,7 +113,7 @@ buffer-too-short t room = ltb room (trace-length (t .header) (t .k))
 
 unfoldable pub writer-checks : Record → ℕ → List Check
 writer-checks t room =
-    header-checks (t .header)
+    trace-header-checks (t .header)
     ++ ((10, too-many-steps (t .header) (t .k)) ∷ (11, digit-beyond (t .header) (t .k) (t .digits)) ∷ (23, buffer-too-short t room) ∷ [])
 
 abbrev pub writer-refusal : Record → ℕ → ℕ

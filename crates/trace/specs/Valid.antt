@@ -15,13 +15,14 @@ use lib.ListN.{length}
 use Rattle.integers.specs.Flat.{entry}
 use Rattle.bitfields.specs.Layout.{fill, field}
 use Rattle.bitfields.specs.Twos.{Fits, AllFit}
-use Rattle.job.specs.Header.{header-checks, read-checks}
-use Rattle.job.specs.Refusal.{None, none, also, accepted-exactly}
-use Rattle.job.specs.Limits.{Limits, limits-exactly, digit-small, steps-small}
+use Rattle.job.specs.Header.{trace-header-checks, trace-read-checks}
+use Rattle.job.specs.Refusal.{first-refusal, None, none, also, accepted-exactly}
+use Rattle.job.specs.Limits.{Limits, trace-limits, trace-read-limits, digit-small, trace-small, last-in-trace}
 use Rattle.job.specs.declared.Header.{Header}
 use Rattle.frame.specs.Frame.{header-of}
-use Rattle.frame.specs.Valid.{header-is}
-use Rattle.state.specs.State.{last-step, breaks-limit, state-checks}
+use Rattle.frame.specs.Valid.{read-order}
+use Rattle.state.specs.State.{breaks-limit, state-checks}
+use Rattle.job.specs.Rules.{trace-steps}
 use Rattle.state.specs.declared.State.{State}
 use Rattle.state.proofs.Digits.{beyond-false}
 use Rattle.state.proofs.Sound.{sound-exactly}
@@ -34,7 +35,7 @@ use Rattle.trace.specs.declared.Record.{Record}
 -- a header within its limits, no more steps than the job has, and no digit beyond p
 pub record Valid (t : Record) : Type 0 where
   pub limits : Limits (t .header)
-  pub steps : t .k ≤ last-step (t .header)
+  pub steps : t .k ≤ trace-steps (t .header)
   pub within : (j i : ℕ) → j < t .k → i < t .header .n → natAbs (entry (t .digits) j i) ≤ t .header .p
 
 -- bytes that spell a valid record: as long as its fields demand, with zeros to the byte
@@ -59,7 +60,7 @@ module _ {t : Record} (a : Valid t) where
   order-some = a .limits .order-least
 
   pub steps-most : t .k ≤ 60
-  steps-most = omega (arith, a .steps, steps-small (t .header) (a .limits))
+  steps-most = omega (arith, a .steps, trace-small (t .header) (a .limits))
 
   -- 5 bits hold them
   pub steps-fit : StepsFit (t .header .n) (t .k) (t .digits)
@@ -88,6 +89,9 @@ fails false t = refl
 not-failed : (c : Bool) → c ≡ false → T (not c)
 not-failed c e = rw e tt
 
+header-is : (s : List ℕ) → (first-refusal (trace-read-checks (header-of s)) ≡ 0) ↔ Limits (header-of s)
+header-is s = trace-read-limits (header-of s) (read-order s .0) (read-order s .1)
+
 none-accepted : (s : List ℕ) → None (trace-checks s) → Accepted s
 unfolding trace-checks trace-record
 none-accepted s (also t₁ (also t₂ (also t₃ (also t₄ (also t₅ (also t₁₀ (also t₆ (also t₇ (also t₁₁ none))))))))) =
@@ -96,21 +100,21 @@ none-accepted s (also t₁ (also t₂ (also t₃ (also t₄ (also t₅ (also t�
       size = equal (length s) (trace-length h (steps-of s)) t₆;
       zeros = equal (field s (trace-bits h (steps-of s)) (fill (trace-bits h (steps-of s)))) 0 t₇;
       valid = record {
-        limits = header-is s .0 (accepted-exactly (read-checks h) tt .1 (also t₂ (also t₃ (also t₄ (also t₅ none)))));
-        steps = nltb→le (last-step h) (steps-of s) t₁₀;
+        limits = header-is s .0 (accepted-exactly (trace-read-checks h) tt .1 (also t₂ (also t₃ (also t₄ (also t₅ none)))));
+        steps = nltb→le (trace-steps h) (steps-of s) t₁₀;
         within = beyond-not h (steps-of s) (trace-digits s) .0 (fails (digit-beyond h (steps-of s) (trace-digits s)) t₁₁);
       };
     }
 
 accepted-none : (s : List ℕ) → Accepted s → None (trace-checks s)
 unfolding trace-checks trace-record
-accepted-none s a = with-header (accepted-exactly (read-checks (header-of s)) tt .0 (header-is s .1 (a .valid .limits)))
+accepted-none s a = with-header (accepted-exactly (trace-read-checks (header-of s)) tt .0 (header-is s .1 (a .valid .limits)))
   where
-    with-header : None (read-checks (header-of s)) → None (trace-checks s)
+    with-header : None (trace-read-checks (header-of s)) → None (trace-checks s)
     with-header (also t₂ (also t₃ (also t₄ (also t₅ none)))) =
         also (le→nltb (length s) 4 (omega (arith, a .size)))
         (also t₂ (also t₃ (also t₄ (also t₅
-        (also (le→nltb (last-step (header-of s)) (steps-of s) (a .valid .steps))
+        (also (le→nltb (trace-steps (header-of s)) (steps-of s) (a .valid .steps))
         (also (not-unequal (length s) (trace-length (header-of s) (steps-of s)) (a .size))
         (also (not-unequal _ 0 (a .zeros))
         (also (not-failed (digit-beyond (header-of s) (steps-of s) (trace-digits s)) (beyond-not (header-of s) (steps-of s) (trace-digits s) .1 (a .valid .within))) none))))))))
@@ -126,8 +130,8 @@ unfolding writer-checks
 none-taken t room (also t₂ (also t₁₄ (also t₃ (also t₄ (also t₅ (also t₁₀ (also t₁₁ (also t₂₃ none)))))))) =
     let h = t .header in (
       record {
-        limits = limits-exactly h .0 (accepted-exactly (header-checks h) tt .1 (also t₂ (also t₁₄ (also t₃ (also t₄ (also t₅ none))))));
-        steps = nltb→le (last-step h) (t .k) t₁₀;
+        limits = trace-limits h .0 (accepted-exactly (trace-header-checks h) tt .1 (also t₂ (also t₁₄ (also t₃ (also t₄ (also t₅ none))))));
+        steps = nltb→le (trace-steps h) (t .k) t₁₀;
         within = beyond-not h (t .k) (t .digits) .0 (fails (digit-beyond h (t .k) (t .digits)) t₁₁);
       },
       nltb→le room (trace-length h (t .k)) t₂₃,
@@ -135,12 +139,12 @@ none-taken t room (also t₂ (also t₁₄ (also t₃ (also t₄ (also t₅ (als
 
 taken-none : (t : Record) (room : ℕ) → Valid t → trace-length (t .header) (t .k) ≤ room → None (writer-checks t room)
 unfolding writer-checks
-taken-none t room a r = with-header (accepted-exactly (header-checks (t .header)) tt .0 (limits-exactly (t .header) .1 (a .limits)))
+taken-none t room a r = with-header (accepted-exactly (trace-header-checks (t .header)) tt .0 (trace-limits (t .header) .1 (a .limits)))
   where
-    with-header : None (header-checks (t .header)) → None (writer-checks t room)
+    with-header : None (trace-header-checks (t .header)) → None (writer-checks t room)
     with-header (also t₂ (also t₁₄ (also t₃ (also t₄ (also t₅ none))))) =
         also t₂ (also t₁₄ (also t₃ (also t₄ (also t₅
-        (also (le→nltb (last-step (t .header)) (t .k) (a .steps))
+        (also (le→nltb (trace-steps (t .header)) (t .k) (a .steps))
         (also (not-failed (digit-beyond (t .header) (t .k) (t .digits)) (beyond-not (t .header) (t .k) (t .digits) .1 (a .within)))
         (also (le→nltb room (trace-length (t .header) (t .k)) r) none)))))))
 
@@ -165,4 +169,4 @@ recorded-valid s e = by-parts (accepted-exactly (state-checks s) tt .0 e)
     by-parts : None (state-checks s) → Valid (untrimmed s)
     by-parts (also t₂₀ (also t₂₄ none)) =
         let p = sound-exactly s .0 (fails (breaks-limit s) t₂₄) in
-        record { limits = p .limits; steps = p .steps; within = p .made }
+        record { limits = p .limits; steps = omega (arith, p .steps, last-in-trace (s .header)); within = p .made }

@@ -19,6 +19,7 @@ ghost use Rattle.bitfields.specs.Layout.{field, number, written};
 ghost use Rattle.bitfields.specs.Twos.{encode, decode, Fits, numbers};
 ghost use Rattle.job.specs.Limits.{Limits};
 ghost use Rattle.job.specs.Refusal.{first-refusal};
+ghost use Rattle.job.specs.Rules.{trace-steps};
 ghost use Rattle.trace.specs.Groups.{digits-from, digits-in, digit-fields, FiveBits, StepsFit, Clear, digit-byte, Bytewise, Appended};
 ghost use Rattle.trace.specs.Part.{record-of, refused-by, part-wrong-length, part-fill-bit-set, size-checks, part-answer};
 ghost use Rattle.trace.specs.Trace.{
@@ -151,11 +152,10 @@ fn size_refusal(b: &[u8], h: Header, k: usize) -> usize
     requires { ⌜ Limits h × (k < 64) ⌝ }
     ensures { λ r. ⌜ r ≡ first-refusal (size-checks h k (part-wrong-length h k (now (b .entry))) (part-fill-bit-set h k (now (b .entry)))) ⌝ }
 {
-    let m = h.m;
     let bits = 6 + 5 * (h.n * k);
     let size = (bits + 7) / 8;
-    if m < k {
-        return 10; // more steps than the job has
+    if job::trace_steps(h) < k {
+        return 10; // more steps than a trace of the job may hold
     }
     if b.len() != size {
         return 6; // not as long as the fields demand
@@ -198,7 +198,7 @@ pub fn read_trace(s: &[u8]) -> Recorded
         return refused(1);
     }
     let h = frame::read_header(s);
-    let c = job::read_refusal(h);
+    let c = job::trace_read_refusal(h);
     if 0 < c {
         return refused(c);
     }
@@ -286,7 +286,7 @@ fn write_digits(out: &mut [u8], d: &[i8; 960], n: usize, k: usize)
 
 // How many bytes a trace of k steps has.
 fn trace_length(h: Header, k: usize) -> usize
-    requires { ⌜ Limits h × (k ≤ h .m) ⌝ }
+    requires { ⌜ Limits h × (k ≤ trace-steps h) ⌝ }
     ensures { λ r. ⌜ r ≡ trace-length h k ⌝ }
 {
     (30 + 5 * (h.n * k) + 7) / 8
@@ -294,7 +294,7 @@ fn trace_length(h: Header, k: usize) -> usize
 
 // Writes a trace to the front of the buffer: the header and the steps as one field, and then the digits. The bytes past it stay.
 fn put_trace(h: Header, k: usize, d: &[i8; 960], out: &mut [u8])
-    requires { ⌜ Limits h × (k ≤ h .m) × StepsFit (h .n) k (now d) × (trace-length h k ≤ length (now out)) ⌝ }
+    requires { ⌜ Limits h × (k ≤ trace-steps h) × StepsFit (h .n) k (now d) × (trace-length h k ≤ length (now out)) ⌝ }
     ensures { λ _. ⌜ now (out .exit) ≡ written (now (out .entry)) (trace-fields h k (now (d .entry))) ⌝ }
 {
     bitfields::write_field(out, 0, 30, frame::header_number(h) * 64 + k as u64);
@@ -305,12 +305,12 @@ fn put_trace(h: Header, k: usize, d: &[i8; 960], out: &mut [u8])
 fn writer_refusal(h: Header, k: usize, d: &[i8; 960], room: usize) -> usize
     ensures { λ r. ⌜ r ≡ first-refusal (writer-checks (record-of h k (now (d .entry))) room) ⌝ }
 {
-    let c = job::header_refusal(h);
+    let c = job::trace_header_refusal(h);
     if 0 < c {
         return c;
     }
-    if h.m < k {
-        return 10; // k above m
+    if k > job::trace_steps(h) {
+        return 10; // k above the most steps of a trace
     }
     if state::beyond(d, h.n, h.p, 0, k) {
         return 11; // a digit beyond p

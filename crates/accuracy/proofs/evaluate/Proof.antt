@@ -1,4 +1,8 @@
 -- The answer and the list are those of the calls, of which demand 3 holds.
+use mathlib.Core.Path.{_≡_}
+use Rattle.evaluator.specs.Evaluator.{least}
+use Rattle.state.specs.State.{state-last}
+use Rattle.accuracy.specs.Calls.{budgets, advances}
 use Rattle.accuracy.proofs.Promised.{promise-refused, last-small, steppable, rows-readable, promise-short, promise-done}
 use borrow.Author.Needs.{needs}
 use Rattle.accuracy.proofs.evaluate.Statement.{statement}
@@ -13,36 +17,44 @@ returns c =
     let a = l .before .before .before .args in
     promise-refused (a .frame .now) (a .budgets .now) (a .out .now) (l .load .result) (l .load .ensures) (c .if1 .taken)
 
+last-step-requires : tie.Need-last-step-requires
+last-step-requires c κs = search needs
+
 steps-allowed-requires : tie.Need-steps-allowed-requires
 steps-allowed-requires c κs =
-    let e = c .before in
+    let e = c .before .before in
     let l = e .before in
     let a = l .before .before .before .args in
-    last-small (a .frame .now) (a .budgets .now) (a .out .now) (l .load .result) (l .load .ensures) (e .if1 .left)
+    rw (c .last-step .ensures) (last-small (a .frame .now) (a .budgets .now) (a .out .now) (l .load .result) (l .load .ensures) (e .if1 .left))
+
+-- the steps that the budgets allow of the job that load has made
+allowed : (m : tie.After-steps-allowed) → let l = m .before .before .before .before in
+    m .steps-allowed .result ≡ least (state-last (l .load .result .state)) (budgets (advances (l .before .before .before .args .budgets .now)))
+allowed m = rw (m .before .last-step .ensures) at (m .steps-allowed .ensures)
 
 returns-2 : tie.Need-returns-2
 returns-2 c =
     let m = c .before .before in
-    let e = m .before .before in
+    let e = m .before .before .before in
     let l = e .before in
     let a = l .before .before .before .args in
-    promise-short (a .frame .now) (a .budgets .now) (a .out .now) (l .load .result) (l .load .ensures) (e .if1 .left) (m .steps-allowed .result) (m .steps-allowed .ensures) (c .if2 .taken)
+    promise-short (a .frame .now) (a .budgets .now) (a .out .now) (l .load .result) (l .load .ensures) (e .if1 .left) (m .steps-allowed .result) (allowed m) (c .if2 .taken)
 
 make-steps-requires : tie.Need-make-steps-requires
 make-steps-requires c κs =
     let m = c .before .before .before .before .before .before .before .before in
-    let e = m .before .before in
+    let e = m .before .before .before in
     let l = e .before in
     let a = l .before .before .before .args in
-    steppable (a .frame .now) (a .budgets .now) (a .out .now) (l .load .result) (l .load .ensures) (e .if1 .left) (m .steps-allowed .result) (m .steps-allowed .ensures)
+    steppable (a .frame .now) (a .budgets .now) (a .out .now) (l .load .result) (l .load .ensures) (e .if1 .left) (m .steps-allowed .result) (allowed m)
 
 put-readings-requires : tie.Need-put-readings-requires
 put-readings-requires c κs =
     let m = c .before .before .before .before .before .before .before .before .before .before .before in
-    let e = m .before .before in
+    let e = m .before .before .before in
     let l = e .before in
     let a = l .before .before .before .args in
-    (rows-readable (a .frame .now) (a .budgets .now) (a .out .now) (l .load .result) (l .load .ensures) (e .if1 .left) (m .steps-allowed .result) (m .steps-allowed .ensures) _ (c .before .before .make-steps .ensures .1), c .before .before .before .before .before .before .before .before .before .if2 .left)
+    (rows-readable (a .frame .now) (a .budgets .now) (a .out .now) (l .load .result) (l .load .ensures) (e .if1 .left) (m .steps-allowed .result) (allowed m) _ (c .before .before .make-steps .ensures .1), c .before .before .before .before .before .before .before .before .before .if2 .left)
 
 same-length : tie.Need-same-length
 same-length c = search needs
@@ -50,11 +62,11 @@ same-length c = search needs
 returns-3 : tie.Need-returns-3
 returns-3 c =
     let m = c .before .before .before .before .before .before .before .before .before .before .before .before .before in
-    let e = m .before .before in
+    let e = m .before .before .before in
     let l = e .before in
     let a = l .before .before .before .args in
     let q = c .before in
-    promise-done (a .frame .now) (a .budgets .now) (a .out .now) (l .load .result) (l .load .ensures) (e .if1 .left) (m .steps-allowed .result) (m .steps-allowed .ensures) _ (q .before .before .before .make-steps .ensures .1) _ (c .before .before .before .before .before .before .before .before .before .before .before .if2 .left) (q .put-readings .ensures)
+    promise-done (a .frame .now) (a .budgets .now) (a .out .now) (l .load .result) (l .load .ensures) (e .if1 .left) (m .steps-allowed .result) (allowed m) _ (q .before .before .before .make-steps .ensures .1) _ (c .before .before .before .before .before .before .before .before .before .before .before .if2 .left) (q .put-readings .ensures)
 
 pub evaluate-spec : {M : Type 1} → statement M
 evaluate-spec =
@@ -62,6 +74,7 @@ evaluate-spec =
     (tie.spec
     load-requires
     returns
+    last-step-requires
     steps-allowed-requires
     returns-2
     make-steps-requires

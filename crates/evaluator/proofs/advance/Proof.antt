@@ -9,7 +9,6 @@ use borrow.Kind.Array.{good-length, eSInt}
 use lib.ListN.{length, length-map}
 use mir.Syntax.{w8}
 use Rattle.state.specs.Sound.{Sound}
-use Rattle.state.specs.State.{last-step}
 use Rattle.evaluator.specs.Steppable.{Steppable}
 use Rattle.evaluator.proofs.Calls.{least-most, advance-refuses, advance-makes, advance-takes}
 use Rattle.evaluator.proofs.Stepping.{last-small, busy-whole, steps-whole}
@@ -19,7 +18,7 @@ use Rattle.evaluator.proofs.advance.Tie as tie
 -- ---- what is known where nothing is refused
 
 abbrev start : tie.After-advance-refusal → tie.Start
-start c = c .before .before .before .before .before .before .before
+start c = c .before .before .before .before .before .before .before .before
 
 -- the array of digits is as long as its type says
 room : (c : tie.Start) → length (c .args .s .digits) ≡ 960
@@ -27,20 +26,22 @@ room c =
     let ds = c .args .s .digits in
     sym (length-map ds (λ x. x)) ∙ good-length (eSInt w8) 960 (map (λ x. x) ds) _ (c .good .0 .1 .1 .1 .1 .1 .1 .1 .0)
 
-accepted : (c : tie.Then1) → let s = start (c .before) .args .s in (s .busy ≡ true) × Sound s × (s .k < last-step (s .header))
+accepted : (c : tie.Then1) → let s = start (c .before) .args .s in (s .busy ≡ true) × Sound s × (s .k < c .before .before .last-step .result)
 accepted c =
     let a = start (c .before) .args in
-    advance-takes (a .s) (a .budget) _ _ (c .before .before .check .ensures) (c .before .advance-refusal .ensures) (c .if1 .taken)
+    let l = c .before .before in
+    advance-takes (a .s) (a .budget) _ _ _ (l .before .check .ensures) (l .last-step .ensures) (c .before .advance-refusal .ensures) (c .if1 .taken)
 
-steppable : (c : tie.After-least) → Steppable (start (c .before .before .before) .args .s) (c .least .result)
+steppable : (c : tie.After-least) → Steppable (start (c .before .before) .args .s) (c .least .result)
 steppable c =
-    let t = c .before .before in
+    let t = c .before in
+    let l = t .before .before in
     let a = start (t .before) .args in
     let h = accepted t in
     record {
       sound = h .1;
       room = room (start (t .before));
-      left = omega (arith, h .2, c .least .ensures, least-most (a .budget) (last-step (a .s .header) - a .s .k));
+      left = omega (arith, h .2, c .least .ensures, least-most (a .budget) (l .last-step .result - a .s .k), l .last-step .ensures);
     }
 
 -- ---- the needs
@@ -48,11 +49,14 @@ steppable c =
 check-requires : tie.Need-check-requires
 check-requires c κs = search needs
 
+last-step-requires : tie.Need-last-step-requires
+last-step-requires c κs = search needs
+
 advance-refusal-requires : tie.Need-advance-refusal-requires
 advance-refusal-requires c κs = search needs
 
 sub-least : tie.Need-sub-least
-sub-least c = omega (arith, accepted (c .before) .2)
+sub-least c = omega (arith, accepted c .2)
 
 least-requires : tie.Need-least-requires
 least-requires c κs = search needs
@@ -60,7 +64,7 @@ least-requires c κs = search needs
 make-steps-requires : tie.Need-make-steps-requires
 make-steps-requires c κs =
     let l = c .before .before .before .before .before .before in
-    rw (busy-whole (start (l .before .before .before) .args .s) (accepted (l .before .before) .0)) (steppable l)
+    rw (busy-whole (start (l .before .before) .args .s) (accepted (l .before) .0)) (steppable l)
 
 add-t : tie.Need-add-t
 add-t c = omega (arith, last-small (steppable (c .before .before .before .before .before .before .before)))
@@ -68,23 +72,25 @@ add-t c = omega (arith, last-small (steppable (c .before .before .before .before
 returns : tie.Need-returns
 returns c =
     let l = c .before .before .before .before .before .before .before in
-    let r = l .before .before .before in
+    let r = l .before .before in
     let a = start r .args in
-    let e = busy-whole (a .s) (accepted (l .before .before) .0) in
+    let e = busy-whole (a .s) (accepted (l .before) .0) in
     let m = rw e at (c .make-steps .ensures) in
-    advance-makes (a .s) (a .budget) _ _ (r .before .check .ensures) (r .advance-refusal .ensures) _ _ (l .before .before .if1 .taken) (l .least .ensures)
+    advance-makes (a .s) (a .budget) _ _ _ (r .before .before .check .ensures) (r .before .last-step .ensures) (r .advance-refusal .ensures) _ _ (l .before .if1 .taken) (l .least .ensures)
     (steps-whole (a .s) _ _ _ (m .0) (m .1))
 
 returns-2 : tie.Need-returns-2
 returns-2 c =
     let a = start (c .before) .args in
-    advance-refuses (a .s) (a .budget) _ _ (c .before .before .check .ensures) (c .before .advance-refusal .ensures) (c .if1 .left)
+    let l = c .before .before in
+    advance-refuses (a .s) (a .budget) _ _ _ (l .before .check .ensures) (l .last-step .ensures) (c .before .advance-refusal .ensures) (c .if1 .left)
 
 pub advance-spec : {M : Type 1} → statement M
 advance-spec =
     tie.close
     (tie.spec
     check-requires
+    last-step-requires
     advance-refusal-requires
     sub-least
     least-requires

@@ -1,7 +1,6 @@
 -- Refused by 1 to 7, or by 8 and 9, or else the job that the numbers make.
 use borrow.Author.Needs.{needs}
 use Rattle.frame.specs.Unpack.{Unpacked, unpack-limits, unpack-gives, part-long, part-within, part-small}
-use Rattle.system.specs.Numbers.{entries-small}
 use Rattle.evaluator.proofs.Loading.{load-short, load-rows, load-fresh}
 use Rattle.evaluator.proofs.load.Statement.{statement}
 use Rattle.evaluator.proofs.load.Tie as tie
@@ -28,7 +27,7 @@ slice-aggregate-matrix : tie.Need-slice-aggregate-matrix
 slice-aggregate-matrix c = part-long (unpacked (c .before))
 
 matrix-requires : tie.Need-matrix-requires
-matrix-requires c κs = let p = part-small (unpacked (c .before)) in (p .0 .order-least, p .0 .order-most, p .0 .fraction-most, p .1)
+matrix-requires c κs = part-small (unpacked (c .before))
 
 array-share-prefix-v-2 : tie.Need-array-share-prefix-v-2
 array-share-prefix-v-2 c = part-within (unpacked (c .before .before))
@@ -37,14 +36,10 @@ slice-aggregate-right-sides : tie.Need-slice-aggregate-right-sides
 slice-aggregate-right-sides c = part-long (unpacked (c .before .before .before))
 
 right-sides-requires : tie.Need-right-sides-requires
-right-sides-requires c κs = let p = part-small (unpacked (c .before .before .before)) in (p .0 .order-most, p .1 .enough)
+right-sides-requires c κs = let p = part-small (unpacked (c .before .before .before)) in (p .0, p .1 .enough)
 
-verdict-small-requires : tie.Need-verdict-small-requires
-verdict-small-requires c κs =
-    let m = c .before .before .before .before in
-    let p = part-small (unpacked (c .before .before .before .before .before .before)) in
-    let h = m .before .before .before .before .before .before .unpack .result .header in
-    (p .0, entries-small (h .kind) (h .n) (h .f) _ _ (p .0 .order-most) (p .0 .fraction-most) (p .1) (m .matrix .ensures))
+verdict-requires : tie.Need-verdict-requires
+verdict-requires c κs = part-small (unpacked (c .before .before .before .before .before .before)) .0
 
 refused-requires-2 : tie.Need-refused-requires-2
 refused-requires-2 c κs = search needs
@@ -53,14 +48,14 @@ returns-2 : tie.Need-returns-2
 returns-2 c =
     let d = c .before .before .before in
     let r = d .before .before .before in
-    load-rows (unpacked (r .before .before .before .before)) _ _ _ (r .before .before .matrix .ensures) (r .right-sides .ensures) (d .verdict-small .ensures)
+    load-rows (unpacked (r .before .before .before .before)) _ _ _ (r .before .before .matrix .ensures) (r .right-sides .ensures) (d .verdict .ensures)
     (c .before .if2 .taken) _ (c .refused2 .ensures)
 
 returns-3 : tie.Need-returns-3
 returns-3 c =
     let d = c .before .before in
     let r = d .before .before .before in
-    load-fresh (unpacked (r .before .before .before .before)) _ _ _ (r .before .before .matrix .ensures) (r .right-sides .ensures) (d .verdict-small .ensures)
+    load-fresh (unpacked (r .before .before .before .before)) _ _ _ (r .before .before .matrix .ensures) (r .right-sides .ensures) (d .verdict .ensures)
     (c .if2 .left)
 
 pub load-spec : {M : Type 1} → statement M
@@ -77,7 +72,7 @@ load-spec =
     array-share-prefix-v-2
     slice-aggregate-right-sides
     right-sides-requires
-    verdict-small-requires
+    verdict-requires
     refused-requires-2
     returns-2
     returns-3)

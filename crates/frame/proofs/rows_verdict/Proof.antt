@@ -1,7 +1,6 @@
 -- The verdict on the arrays is that on the system.
 use borrow.Author.Needs.{needs}
 use mathlib.Core.Path.{_∙_}
-use Rattle.system.specs.Numbers.{entries-small}
 use Rattle.frame.specs.Verdicts.{verdict-arrays}
 use Rattle.frame.proofs.rows_verdict.Statement.{statement}
 use Rattle.frame.proofs.rows_verdict.Tie as tie
@@ -12,18 +11,15 @@ matrix-requires c κs = search needs
 right-sides-requires : tie.Need-right-sides-requires
 right-sides-requires c κs = search needs
 
-verdict-small-requires : tie.Need-verdict-small-requires
-verdict-small-requires c κs =
-    let g = c .before .before .before in
-    let s = g .before in
-    (s .pre .0, entries-small (s .args .h .kind) (s .args .h .n) (s .args .h .f) (s .args .v .now) _ (s .pre .0 .order-most) (s .pre .0 .fraction-most) (s .pre .1) (g .matrix .ensures))
+verdict-requires : tie.Need-verdict-requires
+verdict-requires c κs = search needs
 
 returns : tie.Need-returns
 returns c =
     let z = c .before .before .before in
     let g = z .before in
     let s = g .before in
-    c .verdict-small .ensures ∙ verdict-arrays (s .args .h) (s .args .v .now) (s .pre .0 .order-most) (g .matrix .ensures) (z .right-sides .ensures)
+    c .verdict .ensures ∙ verdict-arrays (s .args .h) (s .args .v .now) (s .pre .0 .order-most) (g .matrix .ensures) (z .right-sides .ensures)
 
 pub rows-verdict-spec : {M : Type 1} → statement M
 rows-verdict-spec =
@@ -31,5 +27,5 @@ rows-verdict-spec =
     (tie.spec
     matrix-requires
     right-sides-requires
-    verdict-small-requires
+    verdict-requires
     returns)

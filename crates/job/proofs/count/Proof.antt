@@ -1,7 +1,8 @@
 -- By the kind.
 use borrow.Author.Needs.{needs}
 use native.Mathlib.Omega.{arith}
-use Rattle.job.specs.Limits.{system-count, count-most}
+use Rattle.job.specs.Kind.{system}
+use Rattle.job.specs.Limits.{other-kind, count-most}
 use Rattle.job.proofs.count.Statement.{statement}
 use Rattle.job.proofs.count.Tie as tie
 
@@ -21,12 +22,15 @@ add-result-2 : tie.Need-add-result-2
 add-result-2 c = search needs
 
 mul-result-2 : tie.Need-mul-result-2
-mul-result-2 c = omega (arith, count-most 2 _ (c .before .before .before .before .before .before .pre))
+mul-result-2 c = omega (arith, count-most system _ (c .before .before .before .before .before .before .before .before .pre))
 
 returns-3 : tie.Need-returns-3
-returns-3 c = system-count _ _ (c .before .before .before .before .if1 .left) (c .before .before .if2 .left)
+returns-3 c = rw (c .before .before .if3 .taken)
+
+returns-4 : tie.Need-returns-4
+returns-4 c = rw (other-kind _ (c .before .before .before .before .if1 .left) (c .before .before .if2 .left) (c .if3 .left))
 
 pub count-spec : {M : Type 1} → statement M
 count-spec =
     tie.close
-    (tie.spec add-result returns mul-result returns-2 add-result-2 mul-result-2 returns-3)
+    (tie.spec add-result returns mul-result returns-2 add-result-2 mul-result-2 returns-3 returns-4)

@@ -1,43 +1,20 @@
--- The first condition that holds decides.
-use mathlib.Core.Path.{_∙_, sym}
+-- From what the radix code's test says.
+use mathlib.Core.Path.{ap, _∙_}
 use borrow.Author.Needs.{needs}
-use Rattle.job.specs.Limits.{known-kind}
+use Rattle.job.specs.Header.{header-checks-knowing}
+use Rattle.job.specs.Limits.{code-small}
+use Rattle.job.specs.Refusal.{first-refusal}
 use Rattle.job.proofs.header_refusal.Statement.{statement}
 use Rattle.job.proofs.header_refusal.Tie as tie
 
-unknown-kind-requires : tie.Need-unknown-kind-requires
-unknown-kind-requires c κs = search needs
+frame-code-requires : tie.Need-frame-code-requires
+frame-code-requires c κs = search needs
+
+header-refusal-knowing-requires : tie.Need-header-refusal-knowing-requires
+header-refusal-knowing-requires c κs = code-small (c .before .args .h) (c .frame-code .result) (c .frame-code .ensures)
 
 returns : tie.Need-returns
-returns c = rw (← c .before .unknown-kind .ensures, c .if1 .taken)
-
-order-out-of-range-requires : tie.Need-order-out-of-range-requires
-order-out-of-range-requires c κs = search needs
-
-returns-2 : tie.Need-returns-2
-returns-2 c =
-    rw (← c .before .before .before .unknown-kind .ensures, c .before .before .if1 .left, ← c .before .order-out-of-range .ensures, c .if2 .taken)
-
-range-refusal-requires : tie.Need-range-refusal-requires
-range-refusal-requires c κs = known-kind (c .before .before .before .before .args .h) (sym (c .before .before .before .unknown-kind .ensures) ∙ c .before .before .if1 .left) .1
-
-returns-3 : tie.Need-returns-3
-returns-3 c =
-    rw (
-      ← c .before .before .before .before .unknown-kind .ensures,
-      c .before .before .before .if1 .left,
-      ← c .before .before .order-out-of-range .ensures,
-      c .before .if2 .left,
-    )
-    (c .range-refusal .ensures)
+returns c = c .header-refusal-knowing .ensures ∙ ap (λ known. first-refusal (header-checks-knowing known (c .before .before .args .h))) (c .before .frame-code .ensures)
 
 pub header-refusal-spec : {M : Type 1} → statement M
-header-refusal-spec =
-    tie.close
-    (tie.spec
-    unknown-kind-requires
-    returns
-    order-out-of-range-requires
-    returns-2
-    range-refusal-requires
-    returns-3)
+header-refusal-spec = tie.close (tie.spec frame-code-requires header-refusal-knowing-requires returns)

@@ -1,21 +1,20 @@
--- The first condition that holds decides.
-use mathlib.Core.Path.{_∙_, sym}
+-- From what the radix code's test says.
+use mathlib.Core.Path.{ap, _∙_}
 use borrow.Author.Needs.{needs}
-use Rattle.job.specs.Limits.{known-kind}
+use Rattle.job.specs.Header.{read-checks-knowing}
+use Rattle.job.specs.Limits.{code-small}
+use Rattle.job.specs.Refusal.{first-refusal}
 use Rattle.job.proofs.read_refusal.Statement.{statement}
 use Rattle.job.proofs.read_refusal.Tie as tie
 
-unknown-kind-requires : tie.Need-unknown-kind-requires
-unknown-kind-requires c κs = search needs
+frame-code-requires : tie.Need-frame-code-requires
+frame-code-requires c κs = search needs
+
+read-refusal-knowing-requires : tie.Need-read-refusal-knowing-requires
+read-refusal-knowing-requires c κs = code-small (c .before .args .h) (c .frame-code .result) (c .frame-code .ensures)
 
 returns : tie.Need-returns
-returns c = rw (← c .before .unknown-kind .ensures, c .if1 .taken)
-
-range-refusal-requires : tie.Need-range-refusal-requires
-range-refusal-requires c κs = known-kind (c .before .before .args .h) (sym (c .before .unknown-kind .ensures) ∙ c .if1 .left) .1
-
-returns-2 : tie.Need-returns-2
-returns-2 c = rw (← c .before .before .unknown-kind .ensures, c .before .if1 .left) (c .range-refusal .ensures)
+returns c = c .read-refusal-knowing .ensures ∙ ap (λ known. first-refusal (read-checks-knowing known (c .before .before .args .h))) (c .before .frame-code .ensures)
 
 pub read-refusal-spec : {M : Type 1} → statement M
-read-refusal-spec = tie.close (tie.spec unknown-kind-requires returns range-refusal-requires returns-2)
+read-refusal-spec = tie.close (tie.spec frame-code-requires read-refusal-knowing-requires returns)

@@ -11,10 +11,10 @@ use Rattle.system.proofs.first_large.Statement.{statement}
 use Rattle.system.proofs.first_large.Tie as tie
 
 abbrev Inv-loop : tie.InvT-loop
-Inv-loop z n half i₀ i = (i ≤ n) × Never i (too-large (toZ w64 half) z)
+Inv-loop z n most i₀ i = (i ≤ n) × Never i (too-large (toZ w64 most) z)
 
 abbrev μ-loop : tie.MeasureT-loop
-μ-loop z n half i₀ i = n - i
+μ-loop z n most i₀ i = n - i
 
 loop-holds : tie.Need-loop-holds Inv-loop μ-loop
 loop-holds c = (omega arith, never-zero _)
@@ -26,7 +26,7 @@ element-copy-out-above : tie.Need-element-copy-out-above Inv-loop μ-loop
 element-copy-out-above c = omega arith
 
 above-requires : tie.Need-above-requires Inv-loop μ-loop
-above-requires c κs = rw (toZ-ofZ {w = w64} (c .before .before .before .fits .half)) (c .before .before .before .pre .1)
+above-requires c κs = rw (toZ-ofZ {w = w64} (c .before .before .before .fits .most)) (c .before .before .before .pre .1)
 
 add-result : tie.Need-add-result Inv-loop μ-loop
 add-result c = omega arith
@@ -36,8 +36,8 @@ returns c =
     let r = c .before .before .before .before .loop in
     let st = c .before .before .before .before .before in
     let a = c .before .above in
-    rw (toZ-ofZ {w = w64} (st .fits .half)) at
-    (search-found _ (st .args .n) (r .i) (r .inv .1) (omega arith) (above-said (toZ w64 (ofZ w64 (st .args .half))) (st .args .z .now) (r .i) (a .result) true (c .before .before .above-arg .given) (a .ensures) (c .if1 .taken)))
+    rw (toZ-ofZ {w = w64} (st .fits .most)) at
+    (search-found _ (st .args .n) (r .i) (r .inv .1) (omega arith) (above-said (toZ w64 (ofZ w64 (st .args .most))) (st .args .z .now) (r .i) (a .result) true (c .before .before .above-arg .given) (a .ensures) (c .if1 .taken)))
 
 add-i : tie.Need-add-i Inv-loop μ-loop
 add-i c = omega arith
@@ -50,13 +50,13 @@ loop-again c =
     let r = c .before .before .before .before .loop in
     let st = c .before .before .before .before .before in
     let a = c .before .above in
-    (omega arith, never-more (r .inv .1) (above-said (toZ w64 (ofZ w64 (st .args .half))) (st .args .z .now) (r .i) (a .result) false (c .before .before .above-arg .given) (a .ensures) (c .if1 .left)))
+    (omega arith, never-more (r .inv .1) (above-said (toZ w64 (ofZ w64 (st .args .most))) (st .args .z .now) (r .i) (a .result) false (c .before .before .above-arg .given) (a .ensures) (c .if1 .left)))
 
 returns-2 : tie.Need-returns-2 Inv-loop μ-loop
 returns-2 c =
     let r = c .before .loop in
     let st = c .before .before in
-    rw (toZ-ofZ {w = w64} (st .fits .half)) at (search-over _ (st .args .n) (r .i) (r .inv .1) (omega arith))
+    rw (toZ-ofZ {w = w64} (st .fits .most)) at (search-over _ (st .args .n) (r .i) (r .inv .1) (omega arith))
 
 pub first-large-spec : {M : Type 1} → statement M
 first-large-spec =

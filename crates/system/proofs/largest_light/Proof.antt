@@ -1,5 +1,6 @@
 -- Every number on the way is small, by the limits.
 use mathlib.Core.Path.{refl, _∙_}
+use native.Mathlib.Nat.{lt-of-le-of-lt}
 use native.Mathlib.Omega.{arith}
 use borrow.Author.Needs.{needs}
 use mir.Syntax.{w64}
@@ -24,23 +25,26 @@ mul-to-signed c = omega (arith, sized c .p-most)
 sub-to-signed : tie.Need-sub-to-signed
 sub-to-signed c = omega (arith, sized c .r-least)
 
-sub-to-signed-2 : tie.Need-sub-to-signed-2
-sub-to-signed-2 c = search needs
-
 mul-to-signed-2 : tie.Need-mul-to-signed-2
-mul-to-signed-2 c = omega (arith, dividend-most _ _ _ (sized c))
+mul-to-signed-2 c = omega (arith, sized c .r-most)
+
+sub-to-signed-2 : tie.Need-sub-to-signed-2
+sub-to-signed-2 c = sized c .r-p
 
 mul-to-signed-3 : tie.Need-mul-to-signed-3
-mul-to-signed-3 c = omega (arith, sized c .r-most)
+mul-to-signed-3 c = record { fits = lt-of-le-of-lt (dividend-most _ _ _ (sized c)) (omega arith) }
 
 mul-to-signed-4 : tie.Need-mul-to-signed-4
-mul-to-signed-4 c = omega (arith, divisor-most _ _ _ (sized c))
+mul-to-signed-4 c = omega (arith, sized c .r-most)
+
+mul-to-signed-5 : tie.Need-mul-to-signed-5
+mul-to-signed-5 c = record { fits = lt-of-le-of-lt (divisor-most _ _ _ (sized c)) (omega arith) }
 
 div-to-signed : tie.Need-div-to-signed
 div-to-signed c = divisor-least _ _ _ (sized c)
 
 to-signed-requires : tie.Need-to-signed-requires
-to-signed-requires c κs = omega (arith, quotient-most _ _ _ (sized c))
+to-signed-requires c κs = lt-of-le-of-lt (quotient-most _ _ _ (sized c)) (omega arith)
 
 returns : tie.Need-returns
 returns c = toZ-ofZ {w = w64} (record { sfits = c .to-signed .ok }) ∙ c .to-signed .ensures ∙ rw (c .before .before .radix .ensures, c .before .unit .ensures) refl
@@ -53,10 +57,11 @@ largest-light-spec =
     unit-requires
     mul-to-signed
     sub-to-signed
-    sub-to-signed-2
     mul-to-signed-2
+    sub-to-signed-2
     mul-to-signed-3
     mul-to-signed-4
+    mul-to-signed-5
     div-to-signed
     to-signed-requires
     returns)

@@ -12,16 +12,16 @@ add-result-2 : tie.Need-add-result-2
 add-result-2 c = search needs
 
 mul-result : tie.Need-mul-result
-mul-result c = omega (arith, place-small (c .before .args .n) (c .before .args .i) (c .before .args .n) (c .before .pre .0) (omega arith) (c .before .pre .1))
+mul-result c = omega (arith, place-small (c .before .args .n) (c .before .args .i) (c .before .args .n) (c .before .pre .1) (omega arith) (c .before .pre .2))
 
 add-result-3 : tie.Need-add-result-3
-add-result-3 c = omega (arith, place-small (c .before .args .n) (c .before .args .i) (c .before .args .n) (c .before .pre .0) (omega arith) (c .before .pre .1))
+add-result-3 c = omega (arith, place-small (c .before .args .n) (c .before .args .i) (c .before .args .n) (c .before .pre .1) (omega arith) (c .before .pre .2))
 
 returns : tie.Need-returns
 returns c = right-place-curve _ (c .before .args .n) _ (c .if1 .taken)
 
 returns-2 : tie.Need-returns-2
-returns-2 c = right-place-system _ _ _ (c .if1 .left)
+returns-2 c = right-place-system (c .before .args .kind) _ _ (c .before .pre .0) (c .if1 .left)
 
 pub right-place-spec : {M : Type 1} → statement M
 right-place-spec =

@@ -3,7 +3,7 @@ use borrow.Author.Needs.{needs}
 use Prim.Native.Nat.{_^_, _<_}
 use native.Mathlib.Omega.{arith}
 use Rattle.bitfields.proofs.Spelling.{slice-bytes}
-use Rattle.job.specs.Limits.{steps-small}
+use Rattle.job.specs.Limits.{trace-small}
 use Rattle.trace.specs.RoundTrip.{fit-head}
 use Rattle.trace.proofs.Writing.{head-small, trace-put}
 use Rattle.trace.proofs.put_trace.Statement.{statement}
@@ -25,7 +25,7 @@ add-write-field c = omega (arith, small c)
 write-field-requires : tie.Need-write-field-requires
 write-field-requires c κs =
     let p = c .before .before .before .pre in
-    (omega arith, omega arith, omega arith, omega (arith, small c, steps-small _ (p .0)))
+    (omega arith, omega arith, omega arith, omega (arith, small c, trace-small _ (p .0)))
 
 write-digits-requires : tie.Need-write-digits-requires
 write-digits-requires c κs = search needs

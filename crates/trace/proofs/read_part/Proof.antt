@@ -6,7 +6,7 @@ use native.Mathlib.Omega.{arith}
 use lib.ListN.{length}
 use Rattle.bitfields.specs.Layout.{bytes-for}
 use Rattle.bitfields.proofs.Reading.{field-lt}
-use Rattle.job.specs.Limits.{digit-small, steps-small}
+use Rattle.job.specs.Limits.{digit-small, trace-small}
 use Rattle.trace.specs.Part.{part-answer, part-bits, refused-by}
 use Rattle.trace.proofs.Reading.{part-beyond, part-read, part-refused, size-facts}
 use Rattle.trace.proofs.read_part.Statement.{statement}
@@ -41,14 +41,14 @@ read-digits-requires : tie.Need-read-digits-requires
 read-digits-requires c κs =
     let l = start (c .before) .pre .1 in
     let f = sized c in
-    (omega arith, omega (arith, l .order-least), omega (arith, l .order-most), omega (arith, steps-small _ l))
+    (omega arith, omega (arith, l .order-least), omega (arith, l .order-most), omega (arith, trace-small _ l))
 
 beyond-requires : tie.Need-beyond-requires
 beyond-requires c κs =
     let e = c .before .before in
     let l = start (e .before) .pre .1 in
     let f = sized e in
-    (omega (arith, l .order-most), omega (arith, digit-small _ l), omega (arith, steps-small _ l))
+    (omega (arith, l .order-most), omega (arith, digit-small _ l), omega (arith, trace-small _ l))
 
 refused-requires-2 : tie.Need-refused-requires-2
 refused-requires-2 c κs = search needs

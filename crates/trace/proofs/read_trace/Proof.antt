@@ -16,8 +16,8 @@ returns c = c .refused .ensures ∙ read-short (c .before .before .before .args 
 read-header-requires : tie.Need-read-header-requires
 read-header-requires c κs = search needs
 
-read-refusal-requires : tie.Need-read-refusal-requires
-read-refusal-requires c κs = search needs
+trace-read-refusal-requires : tie.Need-trace-read-refusal-requires
+trace-read-refusal-requires c κs = search needs
 
 refused-requires-2 : tie.Need-refused-requires-2
 refused-requires-2 c κs = search needs
@@ -27,7 +27,7 @@ returns-2 c =
     let r = c .before .before in
     let e = r .before .before in
     c .refused2 .ensures
-    ∙ read-header (e .before .before .args .s .now) (r .before .read-header .result) (r .read-refusal .result) (e .if1 .left) (r .before .read-header .ensures) (r .read-refusal .ensures) (c .before .if2 .taken)
+    ∙ read-header (e .before .before .args .s .now) (r .before .read-header .result) (r .trace-read-refusal .result) (e .if1 .left) (r .before .read-header .ensures) (r .trace-read-refusal .ensures) (c .before .if2 .taken)
 
 sub-read-part : tie.Need-sub-read-part
 sub-read-part c = search needs
@@ -43,7 +43,7 @@ read-part-requires c κs =
     let r = c .before .before in
     let e = r .before .before in (
       omega arith,
-      read-limited (e .before .before .args .s .now) (r .before .read-header .result) (r .read-refusal .result) (e .if1 .left) (r .before .read-header .ensures) (r .read-refusal .ensures) (c .before .if2 .left),
+      read-limited (e .before .before .args .s .now) (r .before .read-header .result) (r .trace-read-refusal .result) (e .if1 .left) (r .before .read-header .ensures) (r .trace-read-refusal .ensures) (c .before .if2 .left),
     )
 
 returns-3 : tie.Need-returns-3
@@ -51,7 +51,7 @@ returns-3 c =
     let f = c .before .before in
     let r = f .before in
     let e = r .before .before in
-    read-rest (e .before .before .args .s .now) (r .before .read-header .result) (r .read-refusal .result) (e .if1 .left) (r .before .read-header .ensures) (r .read-refusal .ensures)
+    read-rest (e .before .before .args .s .now) (r .before .read-header .result) (r .trace-read-refusal .result) (e .if1 .left) (r .before .read-header .ensures) (r .trace-read-refusal .ensures)
     (c .read-part .result) (f .if2 .left) (c .read-part .ensures)
 
 pub read-trace-spec : {M : Type 1} → statement M
@@ -61,7 +61,7 @@ read-trace-spec =
     refused-requires
     returns
     read-header-requires
-    read-refusal-requires
+    trace-read-refusal-requires
     refused-requires-2
     returns-2
     sub-read-part

@@ -1,6 +1,8 @@
 -- `trace::size_refusal` meets its contract. The first condition that holds decides; with steps of 6 bits nothing overflows. Assumes nothing.
 use borrow.Author.Needs.{needs}
+use Prim.Native.Nat.{_≤_}
 use native.Mathlib.Omega.{arith}
+use Rattle.job.specs.Rules.{trace-steps}
 use Rattle.trace.proofs.Reading.{digits-few, size-fill, size-length, size-right, size-steps}
 use Rattle.trace.proofs.size_refusal.Statement.{statement}
 use Rattle.trace.proofs.size_refusal.Tie as tie
@@ -17,15 +19,23 @@ add-bits c = omega (arith, digits-few (c .before .before .pre .0) (c .before .be
 add-size : tie.Need-add-size
 add-size c = omega (arith, digits-few (c .before .before .pre .0) (c .before .before .pre .1))
 
+trace-steps-requires : tie.Need-trace-steps-requires
+trace-steps-requires c κs = search needs
+
+-- the steps are not too many, once that is looked at
+few : (c : tie.Else1) → let a = c .before .before .before .before .args in a .k ≤ trace-steps (a .h)
+few c = omega (arith, c .before .trace-steps .ensures, c .if1 .left)
+
 returns : tie.Need-returns
 returns c =
-    let a = c .before .before .before .args in
-    size-steps (a .h) (a .k) (a .b .now) (c .if1 .taken)
+    let a = c .before .before .before .before .args in
+    size-steps (a .h) (a .k) (a .b .now) (omega (arith, c .before .trace-steps .ensures, c .if1 .taken))
 
 returns-2 : tie.Need-returns-2
 returns-2 c =
-    let a = c .before .before .before .before .args in
-    size-length (a .h) (a .k) (a .b .now) (c .before .if1 .left) (c .if2 .taken)
+    let l = c .before in
+    let a = l .before .before .before .before .args in
+    size-length (a .h) (a .k) (a .b .now) (few l) (c .if2 .taken)
 
 fill-is-zero-requires : tie.Need-fill-is-zero-requires
 fill-is-zero-requires c κs = search needs
@@ -34,15 +44,15 @@ returns-3 : tie.Need-returns-3
 returns-3 c =
     let f = c .before in
     let e = f .before in
-    let a = e .before .before .before .before .args in
-    size-fill (a .h) (a .k) (a .b .now) (f .fill-is-zero .result) (e .before .if1 .left) (e .if2 .left) (f .fill-is-zero .ensures) (c .if3 .taken)
+    let a = e .before .before .before .before .before .args in
+    size-fill (a .h) (a .k) (a .b .now) (f .fill-is-zero .result) (few (e .before)) (e .if2 .left) (f .fill-is-zero .ensures) (c .if3 .taken)
 
 returns-4 : tie.Need-returns-4
 returns-4 c =
     let f = c .before in
     let e = f .before in
-    let a = e .before .before .before .before .args in
-    size-right (a .h) (a .k) (a .b .now) (f .fill-is-zero .result) (e .before .if1 .left) (e .if2 .left) (f .fill-is-zero .ensures) (c .if3 .left)
+    let a = e .before .before .before .before .before .args in
+    size-right (a .h) (a .k) (a .b .now) (f .fill-is-zero .result) (few (e .before)) (e .if2 .left) (f .fill-is-zero .ensures) (c .if3 .left)
 
 pub size-refusal-spec : {M : Type 1} → statement M
 size-refusal-spec =
@@ -52,6 +62,7 @@ size-refusal-spec =
     mul-bits-2
     add-bits
     add-size
+    trace-steps-requires
     returns
     returns-2
     fill-is-zero-requires
