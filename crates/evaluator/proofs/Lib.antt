@@ -4,5 +4,6 @@ pub mod Follow
 pub mod Horner
 pub mod Kept
 pub mod Loading
+pub mod PastOrder
 pub mod Stepping
 pub mod Theorems

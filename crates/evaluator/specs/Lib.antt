@@ -1,3 +1,4 @@
 pub mod Evaluator
 pub mod Readable
 pub mod Steppable
+pub mod PastOrder

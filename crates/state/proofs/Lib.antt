@@ -1,3 +1,4 @@
+pub mod Below
 pub mod Checks
 pub mod Digits
 mod Example

@@ -4,3 +4,4 @@ pub mod Steps
 pub mod Reading
 pub mod Writing
 pub mod Recording
+pub mod PastOrder

@@ -6,3 +6,4 @@ pub mod Valid
 pub mod RoundTrip
 pub mod Theorems
 pub mod CaseA
+pub mod PastOrder
