@@ -1,10 +1,11 @@
--- Demand 3 at work on document 01's cases A and B: from the statement alone, the exact value of row 1 and how near the last reading lies to it.
+-- Demand 3 at work on document 01's cases A and B: from the statement alone, the exact value of row 1 and how
+-- near the last reading lies to it; and of case A the numbers of every other part of the statement.
 use mathlib.Core.Path.{_≡_, refl, _∙_}
-use mathlib.Core.List.{List, [], _∷_}
+use mathlib.Core.List.{List, [], _∷_, map}
 use Prim.Native.Nat.{ℕ, _<_, _≤_}
 use native.Mathlib.Omega.{arith}
-use lib.IntN.{ℤ, pos, natAbs, _-ℤ_, _*ℤ_}
-use Rattle.integers.specs.Flat.{list-from, stores}
+use lib.IntN.{ℤ, pos, negsuc, natAbs, _+ℤ_, _-ℤ_, _*ℤ_}
+use Rattle.integers.specs.Flat.{at, list-from, stores}
 use Rattle.integers.specs.Normal.{solve, polys}
 use Rattle.integers.specs.Order.{zarith}
 use Rattle.integers.specs.Power.{cancel}
@@ -21,36 +22,44 @@ use Rattle.recurrence.specs.Selection.{select, digit-size}
 use Rattle.curve.specs.Curve.{numerator-value, denominator-value}
 use Rattle.state.specs.Digits.{beyond}
 use Rattle.state.specs.State.{fresh, breaks-limit}
-use Rattle.evaluator.specs.Evaluator.{loaded, advanced, advance-checks, steps-made, steps, one-step}
+use Rattle.evaluator.specs.Evaluator.{loaded, advanced, advance-checks, steps-made, steps, one-step, readings-list}
 use Rattle.accuracy.specs.Calls as calls
 use Rattle.accuracy.specs.Calls.{Call, advance}
-use Rattle.accuracy.specs.Accuracy.{ExactValues, after, Y}
+use Rattle.accuracy.specs.Accuracy.{Accurate, ExactValues, after, held-digit, Y}
 use Rattle.accuracy.proofs.Demand3.{accurate}
+use Rattle.accuracy.proofs.ExampleA.{frame-A, calls-A, one-step-A, two-steps-A, words-A, middle-A, end-A, accepted-A}
+use Rattle.accuracy.proofs.ExampleDigits.{steps-A, row-A, spelt-A, later-A}
+use Rattle.accuracy.proofs.ExampleNear.{near-A, distance-A, curve-A}
+use Rattle.accuracy.proofs.ExampleReadings.{handed-A, nothing-A, word-A}
+use Rattle.accuracy.proofs.ExampleIdentity.{identity-one, identity-two}
 
--- ---- A: polynomial, x 4, p 3 and 8, over 16; four steps
+-- ---- A
 
-unfoldable pub frame-A : List ℕ
-frame-A = 1 ∷ 16 ∷ 68 ∷ 16 ∷ 50 ∷ 0 ∷ []
+-- demand 3 holds of every list of calls
+holds-A : (calls : List Call) → Accurate frame-A calls
+holds-A = accurate frame-A accepted-A
 
-unfoldable pub calls-A : List Call
-calls-A = advance 1 ∷ advance 0 ∷ advance 9 ∷ []
-
-accepted-A : frame-refusal frame-A ≡ 0
-unfolding frame-A frame-checks field number bits run decode curve-entry matrix right-side first-row-from weight total
-accepted-A = refl
-
-reading-A : Y frame-A calls-A 4 0 ≡ pos 5
-unfolding frame-A calls-A calls.run loaded advanced advance-checks steps-made steps one-step fresh breaks-limit beyond frame-checks field number bits run decode curve-entry matrix right-side first-row-from weight total dot sum list-from stores stepped-digits stepped-residuals shifted next-digit next-residual select digit-size reading
-reading-A = refl
+-- the steps made, row 1's digits, a digit past the steps made, how near two digits come, the words that
+-- readings leave, and the identity in row 1
+pub numbers-A :
+    (after frame-A calls-A .k ≡ 4)
+    × (map (λ j. held-digit frame-A calls-A j 0) (1 ∷ 2 ∷ 3 ∷ 4 ∷ []) ≡ pos 0 ∷ pos 1 ∷ pos 1 ∷ negsuc 0 ∷ [])
+    × (held-digit frame-A two-steps-A 3 0 ≡ pos 0)
+    × (natAbs (pos 5 *ℤ pos 4 -ℤ pos 16 *ℤ Y frame-A calls-A 2 0) ≤ 16)
+    × (natAbs (pos 5 *ℤ pos 4 -ℤ pos 16 *ℤ pos 1) ≤ 16)
+    × (at (readings-list (after frame-A middle-A) words-A) 0 ≡ pos 1)
+    × (at (readings-list (after frame-A middle-A) words-A) 1 ≡ pos 2)
+    × (readings-list (after frame-A two-steps-A) [] ≡ [])
+    × (readings-list (after frame-A end-A) (pos 9 ∷ []) ≡ pos 9 ∷ [])
+    × (pos 10 ≡ at (after frame-A one-step-A .z) 0 +ℤ pos 4)
+    × (pos 4 ≡ at (after frame-A two-steps-A .z) 0 +ℤ pos 0)
+numbers-A =
+    (steps-A holds-A, row-A holds-A, later-A holds-A, near-A holds-A, distance-A holds-A, handed-A holds-A .0, handed-A holds-A .1, nothing-A holds-A, word-A holds-A, identity-one holds-A, identity-two holds-A)
 
 -- row 1's exact value is 5/16, in every solution, and the reading 5 after 4 steps is that value exactly
 pub case-A : (N : ℕ → ℤ) (D : ℕ) → ExactValues frame-A N D → pos 16 *ℤ N 0 ≡ pos D *ℤ Y frame-A calls-A 4 0
-unfolding frame-A field number bits run decode numerator-value denominator-value sum
-case-A N D exact = rw reading-A (cancel {d = pos 16} (omega zarith) (first (N 0) (pos D) (value N D exact)))
+case-A N D exact = rw (spelt-A holds-A .1) (cancel {d = pos 16} (omega zarith) (first (N 0) (pos D) (curve-A holds-A N D exact)))
   where
-    value : (N : ℕ → ℤ) (D : ℕ) → ExactValues frame-A N D → pos 256 *ℤ N 0 ≡ pos 80 *ℤ pos D
-    value N D exact = accurate frame-A accepted-A calls-A .curve refl .value N D exact
-
     first : (x d : ℤ) → pos 256 *ℤ x ≡ pos 80 *ℤ d → pos 16 *ℤ (pos 16 *ℤ x) ≡ pos 16 *ℤ (d *ℤ pos 5)
     first x d e =
         solve (x ∷ []) (search polys depth 12) (search polys depth 12) tt ∙ e ∙ solve (d ∷ []) (search polys depth 12) (search polys depth 12) tt
@@ -88,4 +97,4 @@ case-B N D h exact = (cancel {d = pos 8} (omega zarith) (first (N 0) (pos D) (va
         solve (x ∷ []) (search polys depth 12) (search polys depth 12) tt ∙ e ∙ solve (d ∷ []) (search polys depth 12) (search polys depth 12) tt
 
     near : natAbs (N 0 *ℤ pos 32 -ℤ pos D *ℤ pos 15) ≤ D
-    near = omega (arith, rw reading-B at (accurate frame-B accepted-B calls-B .near 5 (omega (arith, steps-B)) N D h exact 0 (omega arith)))
+    near = omega (arith, rw reading-B at (accurate frame-B accepted-B calls-B .near 5 (omega (arith, steps-B)) N D (omega (arith, steps-B)) exact 0 (omega arith)))

@@ -1,4 +1,10 @@
 pub mod Runs
 pub mod Demand3
 pub mod Promised
+pub mod ExampleA
+pub mod ExampleDigits
+pub mod ExampleNear
+pub mod ExampleReadings
+pub mod ExampleIdentity
+pub mod ExamplePromise
 pub mod Examples

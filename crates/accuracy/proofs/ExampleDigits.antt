@@ -1,0 +1,58 @@
+-- `steps-made`, `digits` and `later-digits` of demand 3 on case A: from the statement alone, the steps made and
+-- the digits held.
+use mathlib.Core.Path.{_≡_, refl, ap}
+use mathlib.Core.List.{List, [], _∷_, map}
+use Prim.Native.Nat.{ℕ, _<_, _≤_}
+use native.Mathlib.Omega.{arith}
+use lib.IntN.{ℤ, pos, negsuc}
+use Rattle.integers.specs.Flat.{at}
+use Rattle.bitfields.specs.Layout.{field, number, bits}
+use Rattle.recurrence.specs.Recurrence.{reading}
+use Rattle.accuracy.specs.Calls.{Call, budgets}
+use Rattle.accuracy.specs.Accuracy.{Accurate, after, held-digit, true-digit, Y}
+use Rattle.accuracy.proofs.ExampleA.{frame-A, calls-A, one-step-A, two-steps-A, digits-A}
+
+module _ (holds : (calls : List Call) → Accurate frame-A calls) where
+  -- the budgets 1, 0 and 9 make four steps, since the fourth is the last
+  pub steps-A : after frame-A calls-A .k ≡ 4
+  unfolding frame-A calls-A budgets field number bits
+  steps-A = omega (arith, holds calls-A .steps-made)
+
+  -- a budget of 1 makes one step
+  pub steps-one : after frame-A one-step-A .k ≡ 1
+  unfolding frame-A one-step-A budgets field number bits
+  steps-one = omega (arith, holds one-step-A .steps-made)
+
+  -- and one of 2 makes two
+  pub steps-two : after frame-A two-steps-A .k ≡ 2
+  unfolding frame-A two-steps-A budgets field number bits
+  steps-two = omega (arith, holds two-steps-A .steps-made)
+
+  -- in the steps made the digits are those of the steps on the frame's numbers
+  pub held-A : (calls : List Call) (k : ℕ) → after frame-A calls .k ≡ k → (j i : ℕ) → 1 ≤ j → j ≤ k → i < 2 → held-digit frame-A calls j i ≡ true-digit frame-A j i
+  unfolding frame-A field number bits
+  held-A calls k e j i a b c = holds calls .digits j i (omega arith) (omega arith) (omega arith)
+
+  -- after four steps the digits of row 1 are 0, 1, 1, -1
+  pub row-A : map (λ j. held-digit frame-A calls-A j 0) (1 ∷ 2 ∷ 3 ∷ 4 ∷ []) ≡ pos 0 ∷ pos 1 ∷ pos 1 ∷ negsuc 0 ∷ []
+  row-A =
+      rw (
+        held-A calls-A 4 steps-A 1 0 (omega arith) (omega arith) (omega arith),
+        held-A calls-A 4 steps-A 2 0 (omega arith) (omega arith) (omega arith),
+        held-A calls-A 4 steps-A 3 0 (omega arith) (omega arith) (omega arith),
+        held-A calls-A 4 steps-A 4 0 (omega arith) (omega arith) (omega arith),
+      )
+      (digits-A .0)
+
+  -- which spell 1 after two of the steps and 5 after all four
+  pub spelt-A : (Y frame-A calls-A 2 0 ≡ pos 1) × (Y frame-A calls-A 4 0 ≡ pos 5)
+  unfolding frame-A reading field number bits
+  spelt-A = (rw (held 0, held 1) refl, rw (held 0, held 1, held 2, held 3) refl)
+    where
+      held : (t : ℕ) → at (map (λ j. held-digit frame-A calls-A j 0) (1 ∷ 2 ∷ 3 ∷ 4 ∷ [])) t ≡ at (pos 0 ∷ pos 1 ∷ pos 1 ∷ negsuc 0 ∷ []) t
+      held t = ap (λ (row : List ℤ). at row t) row-A
+
+  -- after two steps the digit of step 3 and row 1 is 0
+  pub later-A : held-digit frame-A two-steps-A 3 0 ≡ pos 0
+  unfolding frame-A field number bits
+  later-A = holds two-steps-A .later-digits 3 0 (omega (arith, steps-two)) (omega arith) (omega arith)

@@ -1,0 +1,31 @@
+-- `near` and `curve` of demand 3 on case A: from the statement alone, how near two of four digits come to
+-- row 1's exact value, and what that value is.
+use mathlib.Core.Path.{_≡_, refl}
+use mathlib.Core.List.{List}
+use Prim.Native.Nat.{ℕ, _≤_}
+use native.Mathlib.Omega.{arith}
+use lib.IntN.{ℤ, pos, natAbs, _-ℤ_, _*ℤ_}
+use Rattle.integers.specs.Sum.{sum}
+use Rattle.bitfields.specs.Layout.{field, number, bits, run}
+use Rattle.bitfields.specs.Twos.{decode}
+use Rattle.curve.specs.Curve.{numerator-value, denominator-value}
+use Rattle.accuracy.specs.Calls.{Call}
+use Rattle.accuracy.specs.Accuracy.{Accurate, ExactValues, Y}
+use Rattle.accuracy.proofs.ExampleA.{frame-A, calls-A, values-A, exact-A}
+use Rattle.accuracy.proofs.ExampleDigits.{steps-A, spelt-A}
+
+module _ (holds : (calls : List Call) → Accurate frame-A calls) where
+  -- row 1's value is 5/16, and the first two of its four digits spell a Y with |5 × 4 - 16 × Y| ≤ 16
+  pub near-A : natAbs (pos 5 *ℤ pos 4 -ℤ pos 16 *ℤ Y frame-A calls-A 2 0) ≤ 16
+  unfolding frame-A values-A field number bits
+  near-A =
+      omega (arith, holds calls-A .near 2 (omega (arith, steps-A holds)) values-A 16 (omega (arith, steps-A holds)) exact-A 0 (omega arith))
+
+  -- this Y is 1: |5 × 4 - 16 × 1| ≤ 16
+  pub distance-A : natAbs (pos 5 *ℤ pos 4 -ℤ pos 16 *ℤ pos 1) ≤ 16
+  distance-A = rw (spelt-A holds .0) at near-A
+
+  -- row 1's exact value is 80/256, in every solution
+  pub curve-A : (N : ℕ → ℤ) (D : ℕ) → ExactValues frame-A N D → pos 256 *ℤ N 0 ≡ pos 80 *ℤ pos D
+  unfolding frame-A field number bits run decode numerator-value denominator-value sum
+  curve-A N D exact = holds calls-A .curve refl .value N D exact

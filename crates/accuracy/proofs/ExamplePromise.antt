@@ -1,0 +1,43 @@
+-- What `evaluate` promises, on cases D and A: from the promise alone, the answer and every word of the list.
+use mathlib.Core.Path.{_≡_, _∙_}
+use mathlib.Core.List.{List, [], _∷_}
+use Prim.Native.Nat.{ℕ}
+use native.Mathlib.Omega.{arith}
+use lib.IntN.{ℤ, pos}
+use Rattle.integers.specs.Product.{weight}
+use Rattle.integers.specs.Sum.{total}
+use Rattle.bitfields.specs.Layout.{field, number, bits, run}
+use Rattle.bitfields.specs.Twos.{decode}
+use Rattle.job.specs.Rows.{first-row-from}
+use Rattle.job.specs.System.{curve-entry, matrix, right-side}
+use Rattle.frame.specs.Frame.{frame-checks}
+use Rattle.accuracy.specs.Calls.{advance, readings, budgets}
+use Rattle.accuracy.specs.Accuracy.{after}
+use Rattle.accuracy.specs.Promise.{Promise}
+use Rattle.accuracy.specs.declared.Evaluated.{Evaluated}
+use Rattle.accuracy.proofs.ExampleA.{frame-A, calls-A, accepted-A, readings-A}
+
+-- ---- D: x 5 in A
+
+unfoldable pub frame-D : List ℕ
+frame-D = 1 ∷ 16 ∷ 68 ∷ 20 ∷ 50 ∷ 0 ∷ []
+
+-- it is refused by 8 with row 1, no step is made, and no word of the list changes
+pub promised-D : (list : List ℕ) (given : List ℤ) (r : Evaluated) (left : List ℤ) → Promise frame-D list given r left → (r ≡ record { refusal = 8; row = 1; made = 0 }) × (left ≡ given)
+unfolding frame-D frame-checks field number bits run decode curve-entry matrix right-side first-row-from weight total
+promised-D list given r left p = p .refused (omega arith)
+
+-- ---- A, with the budgets 1, 0 and 9 and three words lent
+
+module _ (x y w : ℤ) (r : Evaluated) (left : List ℤ) (p : Promise frame-A (1 ∷ 0 ∷ 9 ∷ []) (x ∷ y ∷ w ∷ []) r left) where
+  -- it is not refused, four steps are made, and the list has 5, 8 and the third word as it was
+  pub promised-A : (r ≡ record { refusal = 0; row = 0; made = 4 }) × (left ≡ pos 5 ∷ pos 8 ∷ w ∷ [])
+  unfolding calls-A
+  promised-A =
+      let q = p .accepted (omega (arith, accepted-A)) in
+      (q .0 ∙ rw (readings-A x y w .3, readings-A x y w .4), q .1 ∙ readings-A x y w .5)
+
+  -- and demand 3 holds of the calls: after them four steps are made
+  pub promised-steps-A : after frame-A (advance 1 ∷ advance 0 ∷ advance 9 ∷ readings (x ∷ y ∷ w ∷ []) ∷ []) .k ≡ 4
+  unfolding frame-A budgets field number bits
+  promised-steps-A = omega (arith, p .accurate (omega (arith, accepted-A)) .steps-made)
