@@ -1,6 +1,8 @@
 pub mod Runs
 pub mod Demand3
 pub mod Promised
+pub mod Parts
+pub mod Performed
 pub mod ExampleA
 pub mod ExampleDigits
 pub mod ExampleNear
@@ -8,3 +10,4 @@ pub mod ExampleReadings
 pub mod ExampleIdentity
 pub mod ExamplePromise
 pub mod Examples
+pub mod ExamplePerform

@@ -1,3 +1,4 @@
 pub mod Calls
 pub mod Accuracy
 pub mod Promise
+pub mod Perform

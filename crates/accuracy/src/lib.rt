@@ -6,6 +6,10 @@ ghost use Rattle.evaluator.specs.Evaluator.{least};
 ghost use Rattle.accuracy.specs.Calls.{budgets, advances};
 ghost use Rattle.accuracy.specs.Promise.{Promise};
 
+mod calls;
+
+pub use calls::perform;
+
 // A refusal number, 0 where there is none, the row given with it, and the steps made.
 pub struct Evaluated {
     pub refusal: usize,

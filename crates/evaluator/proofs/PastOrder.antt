@@ -14,7 +14,8 @@ use Rattle.integers.specs.Flat.{at, entry, flat-vector, flat-matrix, getD-list-
 use Rattle.integers.specs.Maximum.{le-or-lt}
 use Rattle.integers.specs.Product.{dot-ext}
 use Rattle.job.specs.Header.{radix}
-use Rattle.job.specs.Limits.{steps-small}
+use Rattle.job.specs.Limits.{last-small}
+use Rattle.system.specs.Setup.{past-order}
 use Rattle.job.specs.Refusal.{Check, first-refusal, refused-before}
 use Rattle.job.specs.System.{matrix-of, right-side-of}
 use Rattle.job.specs.declared.Header.{Header}
@@ -25,9 +26,10 @@ use Rattle.recurrence.proofs.Stepped.{filled-ext, length-stepped-residuals, ste
 use Rattle.frame.specs.Frame.{header-of, frame-numbers}
 use Rattle.state.specs.Digits.{all-steps, digits-of}
 use Rattle.state.specs.Sound.{Sound}
-use Rattle.state.specs.State.{last-step, idle-state, fresh, state-checks}
+use Rattle.state.specs.State.{state-last, idle-state, fresh, state-checks}
 use Rattle.state.specs.declared.State.{State}
-use Rattle.state.proofs.Below.{SameBelow, checked-alike, list-from-alike, flat-vector-alike, stores-alike}
+use Rattle.state.specs.PastOrder.{SameBelow}
+use Rattle.state.proofs.Below.{checked-alike, list-from-alike, flat-vector-alike, stores-alike}
 use Rattle.evaluator.specs.Evaluator.{loaded, last-digits, chosen-digits, left-residuals, one-step, steps, no-budget, all-made, advance-checks, advance-refusal, steps-made, advanced, list-too-short, readings-checks, readings-refusal, readings-list}
 use Rattle.evaluator.specs.PastOrder.{SamePast, ZeroPast, SameLengths, LoadZeros, AdvanceBelow, AdvanceKeeps, ReadingsBelow}
 use Rattle.evaluator.proofs.Calls.{least-most}
@@ -43,24 +45,12 @@ vector-past n B i h l =
     let e : 0 + i ≡ i = omega arith in
     getD-list-from 0 16 (λ i. cond (ltb i n) (B i) (pos 0)) i h ∙ rw (e, le-ltb i n l)
 
-matrix-past : (n : ℕ) (G : ℕ → ℕ → ℤ) (i j : ℕ) → i < 16 → j < 16 → (n ≤ i) ⊎ (n ≤ j) → entry (flat-matrix n G) i j ≡ pos 0
-matrix-past n G i j a b o =
-    let e : 0 + (16 * i + j) ≡ 16 * i + j = omega arith in
-    let p : (16 * i + j) / 16 ≡ i = omega arith in
-    let q : (16 * i + j) % 16 ≡ j = omega arith in
-    getD-list-from 0 256 (λ k. cond (ltb (k / 16) n && ltb (k % 16) n) (G (k / 16) (k % 16)) (pos 0)) (16 * i + j) (omega arith)
-    ∙ rw (e, p, q) (by-side o)
-  where
-    by-side : (n ≤ i) ⊎ (n ≤ j) → cond (ltb i n && ltb j n) (G i j) (pos 0) ≡ pos 0
-    by-side (inl l) = rw (le-ltb i n l)
-    by-side (inr l) = rw (le-ltb j n l, and-false (ltb i n))
-
 -- a job with no steps made, and the idle state
 fresh-zeros : (h : Header) (v : List ℤ) → ZeroPast (fresh h v)
 unfolding fresh
 fresh-zeros h v =
     record {
-      matrix = matrix-past (h .n) (matrix-of h v);
+      matrix = past-order (h .n) (matrix-of h v);
       residuals = vector-past (h .n) (right-side-of h v);
       digits = λ j i m l o. getD-replicate 960 (16 * j + i) (pos 0) (pos 0) (omega arith);
     }
@@ -212,7 +202,7 @@ module _ {s t : State} (budget : ℕ) (e : SameBelow s t) where
   unfolding advanced advance-checks
   made-room z =
       let p = taken-sound s ((22, no-budget budget) ∷ (21, all-made s) ∷ []) z in
-      omega (arith, made-least s budget z, least-most budget (last-step (s .header) - s .k), p .steps, steps-small (s .header) (p .limits))
+      omega (arith, made-least s budget z, least-most budget (state-last s - s .k), p .steps, last-small (s .header) (p .limits))
 
   alike-after : SameLengths s t
       → SameBelow (advanced s budget .state) (advanced t budget .state) × SameLengths (advanced s budget .state) (advanced t budget .state)
@@ -262,7 +252,7 @@ module _ {s t : State} (e : SameBelow s t) where
       by-case (inl l) =
           let z : readings-refusal s (length out) ≡ 0 = omega arith in
           let p = taken-sound s ((23, list-too-short s (length out)) ∷ []) z in
-          let a : s .k ≤ all-steps = omega (arith, p .steps, steps-small (s .header) (p .limits)) in
+          let a : s .k ≤ all-steps = omega (arith, p .steps, last-small (s .header) (p .limits)) in
           rw (← readings-refused-alike (length out), z, ← e .header, ← e .steps)
           (ap (λ (v : List ℤ). v ++ drop (s .header .n) out)
           (list-from-alike 0 (s .header .n) _ _ (λ i g m. reading-ext (radix (s .header .code)) (digits-of (s .digits)) (digits-of (t .digits)) (s .k) i

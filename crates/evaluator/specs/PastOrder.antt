@@ -15,7 +15,7 @@ use lib.ListN.{length}
 use Rattle.integers.specs.Flat.{at, entry}
 use Rattle.state.specs.Digits.{all-steps}
 use Rattle.state.specs.declared.State.{State}
-use Rattle.state.proofs.Below.{SameBelow}
+use Rattle.state.specs.PastOrder.{SameBelow}
 use Rattle.evaluator.specs.Evaluator.{loaded, advanced, readings-refusal, readings-list}
 
 -- ---- what stands past the order: of the 16 rows and columns that the arrays have, G's entries in a row or a

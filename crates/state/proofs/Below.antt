@@ -1,5 +1,4 @@
--- Two states that agree below the order: what a call may look at is the same in both, and what stands past
--- the order may be anything. Refusals 20 and 24 come out the same for both. And the laws of lists that the
+-- Of two states that agree below the order refusals 20 and 24 come out the same. And the laws of lists that the
 -- calls on such states need. Cited by `PastOrder` of the evaluator and of traces.
 use mathlib.Core.Path.{_≡_, refl, sym, _∙_}
 use mathlib.Core.Bool.{Bool, true, false, cond}
@@ -15,24 +14,15 @@ use lib.Seq.{getD-set-other}
 use Rattle.integers.specs.Flat.{at, entry, list-from, flat-vector, stores, length-stores}
 use Rattle.integers.specs.Maximum.{le-or-lt}
 use Rattle.integers.specs.Product.{weight-ext}
-use Rattle.job.specs.Limits.{steps-small}
+use Rattle.job.specs.Limits.{last-small}
 use Rattle.system.specs.FirstRow.{first-row-ext}
 use Rattle.state.specs.Digits.{all-steps, beyond}
+use Rattle.state.specs.PastOrder.{SameBelow}
 use Rattle.state.specs.Sound.{Sound, state-of}
 use Rattle.state.specs.State.{breaks-limit, state-checks}
 use Rattle.state.specs.declared.State.{State}
+use Rattle.state.proofs.Digits.{same-test}
 use Rattle.state.proofs.Sound.{sound-exactly}
-
--- The mark, the header and the steps made are the same, and so are G's entries in rows and columns below the
--- order, the residuals of the rows below it, and these rows' digits at each of the 60 steps that there is
--- room for. Of the other entries nothing is said.
-pub record SameBelow (s t : State) : Type 0 where
-  pub busy : s .busy ≡ t .busy
-  pub header : s .header ≡ t .header
-  pub steps : s .k ≡ t .k
-  pub matrix : (i j : ℕ) → i < s .header .n → j < s .header .n → entry (s .g) i j ≡ entry (t .g) i j
-  pub residuals : (i : ℕ) → i < s .header .n → at (s .z) i ≡ at (t .z) i
-  pub digits : (j i : ℕ) → j < all-steps → i < s .header .n → entry (s .digits) j i ≡ entry (t .digits) j i
 
 -- either may be named first
 pub other-way : {s t : State} → SameBelow s t → SameBelow t s
@@ -81,18 +71,11 @@ module _ {s t : State} (e : SameBelow s t) where
         made = λ j i m l.
             let a : i < s .header .n = rw (e .header) l in
             let b : j < s .k = rw (e .steps) m in
-            rw (← e .header, ← e .digits j i (omega (arith, p .steps, steps-small (s .header) (p .limits))) a) (p .made j i b a);
+            rw (← e .header, ← e .digits j i (omega (arith, p .steps, last-small (s .header) (p .limits))) a) (p .made j i b a);
         later = λ j i m b l.
             let a : i < s .header .n = rw (e .header) l in
             rw (← e .digits j i b a) (p .later j i (rw (e .steps) m) b a);
       }
-
--- two tests that fail together are one
-same-test : (a b : Bool) → (a ≡ false → b ≡ false) → (b ≡ false → a ≡ false) → a ≡ b
-same-test true true f g = refl
-same-test true false f g = g refl
-same-test false true f g = sym (f refl)
-same-test false false f g = refl
 
 module _ {s t : State} (e : SameBelow s t) where
   pub breaks-alike : breaks-limit s ≡ breaks-limit t

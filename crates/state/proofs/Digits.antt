@@ -19,7 +19,7 @@ use Rattle.state.specs.Marks.{mark-of, Within-row, Marks}
 -- ---- tests
 
 -- two tests that fail together are one
-same-test : (a b : Bool) → (a ≡ false → b ≡ false) → (b ≡ false → a ≡ false) → a ≡ b
+pub same-test : (a b : Bool) → (a ≡ false → b ≡ false) → (b ≡ false → a ≡ false) → a ≡ b
 same-test true true f g = refl
 same-test true false f g = g refl
 same-test false true f g = sym (f refl)

@@ -2,3 +2,4 @@ pub mod Digits
 pub mod Marks
 pub mod State
 pub mod Sound
+pub mod PastOrder

@@ -48,7 +48,7 @@ module _ (n : ℕ) (G : ℕ → ℕ → ℤ) where
   flat-entry k = cond (ltb (k / 16) n && ltb (k % 16) n) (G (k / 16) (k % 16)) (pos 0)
 
   -- past the order there are zeros
-  past-order : (i j : ℕ) → i < 16 → j < 16 → (n ≤ i) ⊎ (n ≤ j) → entry (flat-matrix n G) i j ≡ pos 0
+  pub past-order : (i j : ℕ) → i < 16 → j < 16 → (n ≤ i) ⊎ (n ≤ j) → entry (flat-matrix n G) i j ≡ pos 0
   past-order i j a b h =
       let e : 0 + (16 * i + j) ≡ 16 * i + j = omega arith in
       let p : (16 * i + j) / 16 ≡ i = omega arith in

@@ -14,7 +14,8 @@ use lib.ListN.{length, getD-replicate}
 use Rattle.integers.specs.Flat.{entry}
 use Rattle.integers.specs.Maximum.{le-or-lt}
 use Rattle.state.specs.declared.State.{State}
-use Rattle.state.proofs.Below.{SameBelow, checked-alike, beyond-ext, list-from-alike}
+use Rattle.state.specs.PastOrder.{SameBelow}
+use Rattle.state.proofs.Below.{checked-alike, beyond-ext, list-from-alike}
 use Rattle.job.specs.Refusal.{first-refusal}
 use Rattle.trace.specs.Trace.{digit-list, digit-beyond, zero-record, trace-record, read-answer, trace-refusal, state-refusal, state-record, record-answer, writer-checks, writer-refusal, record-fields, write-answer, write-buffer}
 use Rattle.trace.specs.Digits.{entry-none}

@@ -10,7 +10,7 @@ use lib.IntN.{pos}
 use Rattle.integers.specs.Flat.{entry}
 use Rattle.state.specs.Digits.{all-steps}
 use Rattle.state.specs.declared.State.{State}
-use Rattle.state.proofs.Below.{SameBelow}
+use Rattle.state.specs.PastOrder.{SameBelow}
 use Rattle.trace.specs.Trace.{read-answer, record-answer, write-answer, write-buffer}
 use Rattle.trace.specs.declared.Record.{Record}
 

@@ -1,0 +1,98 @@
+-- `Performed` at work on document 01's cases A and D: from the promise alone, the very numbers that `perform`
+-- answers and leaves in the list.
+use mathlib.Core.Path.{_≡_, refl, sym, ap, _∙_}
+use mathlib.Core.List.{List, [], _∷_, _++_}
+use Prim.Native.Nat.{ℕ, _+_, _<_, _≤_}
+use native.Mathlib.Omega.{arith}
+use lib.IntN.{ℤ, pos}
+use lib.ListN.{length}
+use Rattle.integers.specs.Flat.{at, list-from, stores}
+use Rattle.integers.specs.Product.{dot, weight}
+use Rattle.integers.specs.Sum.{sum, total}
+use Rattle.bitfields.specs.Layout.{field, number, bits, run}
+use Rattle.bitfields.specs.Twos.{decode}
+use Rattle.job.specs.Rows.{first-row-from}
+use Rattle.job.specs.System.{curve-entry, matrix, right-side}
+use Rattle.frame.specs.Frame.{frame-checks, frame-refusal}
+use Rattle.recurrence.specs.Flat.{stepped-digits, stepped-residuals}
+use Rattle.recurrence.specs.Recurrence.{digit, residual, shifted, next-digit, next-residual, reading}
+use Rattle.recurrence.specs.Selection.{select, digit-size}
+use Rattle.state.specs.Digits.{beyond}
+use Rattle.state.specs.State.{fresh, breaks-limit}
+use Rattle.evaluator.specs.Evaluator.{loaded, advanced, advance-checks, steps-made, steps, one-step, readings-checks, readings-list}
+use Rattle.accuracy.specs.Calls as calls
+use Rattle.accuracy.specs.Calls.{Call, advance, readings, budgets}
+use Rattle.accuracy.specs.Perform.{room-of, calls-of, place, parts-after, Untouched, Performed}
+use Rattle.accuracy.specs.declared.Evaluated.{Evaluated}
+use Rattle.accuracy.proofs.Examples.{frame-A}
+
+-- ---- A: advances by 2, 0 and 9, and readings of no word, of three and of two; by 0 and of no word are refused
+
+words-A : List ℕ
+words-A = 0 ∷ 2 ∷ 1 ∷ 0 ∷ 1 ∷ 3 ∷ 0 ∷ 0 ∷ 0 ∷ 9 ∷ 7 ∷ 2 ∷ []
+
+-- six words are lent, one more than the parts have
+given-A : List ℤ
+given-A = pos 70 ∷ pos 71 ∷ pos 72 ∷ pos 73 ∷ pos 74 ∷ pos 75 ∷ []
+
+-- the calls before the last readings
+before-A : List Call
+before-A = advance 2 ∷ readings [] ∷ readings (pos 70 ∷ pos 71 ∷ pos 72 ∷ []) ∷ advance 0 ∷ advance 9 ∷ []
+
+calls-A : calls-of words-A given-A ≡ before-A ++ (readings (pos 73 ∷ pos 74 ∷ []) ∷ [])
+unfolding words-A given-A before-A calls-of
+calls-A = refl
+
+accepted-A : frame-refusal frame-A ≡ 0
+unfolding frame-A frame-checks field number bits run decode curve-entry matrix right-side first-row-from weight total
+accepted-A = refl
+
+-- no reading goes to the third word, which is the last of a part of three
+third-A : Untouched 2 (calls-of words-A given-A) 2
+unfolding before-A place
+third-A before rest part e = by-split before rest part (sym calls-A ∙ e)
+  where
+    by-split : (before rest : List Call) (part : List ℤ) → before-A ++ (readings (pos 73 ∷ pos 74 ∷ []) ∷ []) ≡ before ++ (readings part ∷ rest) → 2 ≤ length part → place before ≤ 2 → 2 < place before + 2 → ⊥
+    by-split [] rest part e m a b = let z : _≡_ {A = ℕ} 0 1 = cc in omega arith
+    by-split (c ∷ []) rest part e m a b = let z : _≡_ {A = List ℤ} [] part = cc in omega (arith, ap length z)
+    by-split (c ∷ d ∷ []) rest part e m a b =
+        let x : advance 2 ≡ c = cc in
+        let y : readings [] ≡ d = cc in
+        omega (arith, ap room-of x, ap room-of y)
+    by-split (c ∷ d ∷ f ∷ before) rest part e m a b = let z : readings (pos 70 ∷ pos 71 ∷ pos 72 ∷ []) ≡ f = cc in omega (arith, ap room-of z)
+
+module _ (r : Evaluated) (left : List ℤ) (p : Performed frame-A words-A given-A r left) where
+  -- after two steps the rows read 1 and 2, after four 5 and 8; the third word of the part of three is as it
+  -- was, and so is the word past the parts
+  list-A : left ≡ pos 1 ∷ pos 2 ∷ pos 72 ∷ pos 5 ∷ pos 8 ∷ pos 75 ∷ []
+  unfolding words-A given-A calls-of parts-after place readings-list readings-checks frame-A calls.run loaded advanced advance-checks steps-made steps one-step fresh breaks-limit beyond frame-checks field number bits run decode curve-entry matrix right-side first-row-from weight total dot sum list-from stores stepped-digits stepped-residuals shifted next-digit next-residual select digit-size reading
+  list-A = p .accepted accepted-A .1
+
+  -- by demand 3 four steps are made
+  answer-A : r ≡ record { refusal = 0; row = 0; made = 4 }
+  unfolding words-A given-A calls-of budgets frame-A field number bits
+  answer-A = p .accepted accepted-A .0 ∙ ap (λ (k : ℕ). record { refusal = 0; row = 0; made = k }) (p .accurate accepted-A .steps-made)
+
+  -- and the fourth word is row 1's reading
+  word-A : at left 3 ≡ pos 5
+  unfolding before-A place budgets frame-A field number bits run decode curve-entry matrix right-side dot sum digit residual shifted next-digit next-residual select digit-size reading
+  word-A = p .handed-out accepted-A before-A [] (pos 73 ∷ pos 74 ∷ []) calls-A (omega arith) 0 (omega arith)
+
+  kept-A : at left 2 ≡ pos 72
+  unfolding frame-A given-A field number bits
+  kept-A = p .kept accepted-A 2 third-A
+
+-- ---- D: refused by 8, with row 1
+
+unfoldable pub frame-D : List ℕ
+frame-D = 1 ∷ 16 ∷ 68 ∷ 20 ∷ 50 ∷ 0 ∷ []
+
+refused-D : (r : Evaluated) (left : List ℤ) → Performed frame-D words-A given-A r left → (r ≡ record { refusal = 8; row = 1; made = 0 }) × (left ≡ given-A)
+unfolding frame-D frame-checks field number bits run decode curve-entry matrix right-side first-row-from weight total
+refused-D r left p = p .refused (omega arith)
+
+-- ---- a room past the end is cut to what is left, and an odd word at the end is no call
+
+cut : calls-of (5 ∷ 100 ∷ 0 ∷ []) (pos 70 ∷ pos 71 ∷ []) ≡ readings (pos 70 ∷ pos 71 ∷ []) ∷ []
+unfolding calls-of
+cut = refl

@@ -1,0 +1,84 @@
+-- What `perform` promises, over the variables of its code: of a refused frame, and of an accepted one.
+use mathlib.Core.Path.{_≡_, refl, ap, _∙_}
+use mathlib.Core.List.{List, _∷_, _++_}
+use Prim.Native.Nat.{ℕ, _+_, _<_, _≤_}
+use native.Mathlib.Omega.{arith}
+use lib.IntN.{ℤ}
+use lib.ListN.{length}
+use Rattle.integers.specs.Flat.{at}
+use Rattle.job.specs.Refusal.{first-refusal}
+use Rattle.job.specs.declared.Header.{Header}
+use Rattle.frame.specs.Frame.{frame-refusal, header-of, frame-numbers}
+use Rattle.state.specs.State.{fresh, state-checks}
+use Rattle.state.specs.declared.State.{State}
+use Rattle.evaluator.specs.Evaluator.{loaded, steps, readings-refusal, readings-list}
+use Rattle.evaluator.specs.declared.Loaded.{Loaded}
+use Rattle.evaluator.proofs.Kept.{fresh-start, loaded-passes}
+use Rattle.evaluator.proofs.Theorems.{accepted-load}
+use Rattle.accuracy.specs.Accuracy.{order, after}
+use Rattle.accuracy.specs.Calls.{Call, readings, run}
+use Rattle.accuracy.specs.Perform.{calls-of, place, list-after, Performed}
+use Rattle.accuracy.proofs.Demand3.{accurate}
+use Rattle.accuracy.proofs.Parts.{run-header, run-passes, readings-taken, at-part, kept-word}
+
+-- ---- an accepted frame: its state after any calls
+
+module _ (frame : List ℕ) (ok : frame-refusal frame ≡ 0) where
+  start : loaded frame .state ≡ fresh (header-of frame) (frame-numbers frame)
+  unfolding loaded
+  start = accepted-load frame ok
+
+  start-header : loaded frame .state .header ≡ header-of frame
+  start-header = rw start (fresh-start (header-of frame) (frame-numbers frame) .2)
+
+  start-passes : first-refusal (state-checks (loaded frame .state)) ≡ 0
+  unfolding steps
+  start-passes = rw start (loaded-passes frame ok 0 (omega arith))
+
+  start-order : loaded frame .state .header .n ≡ order frame
+  start-order = ap (λ (h : Header). h .n) start-header
+
+  -- a readings call whose list has a word for each row is not refused
+  taken : (before : List Call) (room : ℕ) → order frame ≤ room → readings-refusal (after frame before) room ≡ 0
+  taken before room h =
+      let e : after frame before .header ≡ header-of frame = run-header (loaded frame .state) before ∙ start-header in
+      readings-taken (after frame before) room (run-passes (loaded frame .state) before start-passes) (rw e h)
+
+  -- its part holds what it handed out
+  in-part : (calls before rest : List Call) (part given left : List ℤ) → left ≡ list-after (loaded frame .state) calls given → calls ≡ before ++ (readings part ∷ rest) → (i : ℕ) → i < length part
+      → at left (place before + i) ≡ at (readings-list (after frame before) part) i
+  in-part calls before rest part given left el e i h = rw (el, e) (at-part (loaded frame .state) before rest part _ i h)
+
+-- ---- the promise
+
+module _ (frame words : List ℕ) (given : List ℤ) (l : Loaded) (e : l ≡ loaded frame) where
+  refusal-is : l .refusal ≡ frame-refusal frame
+  unfolding loaded
+  refusal-is = ap (λ (x : Loaded). x .refusal) e
+
+  pub performed-refused : 0 < l .refusal → Performed frame words given (record { refusal = l .refusal; row = l .row; made = 0 }) given
+  unfolding loaded
+  performed-refused h =
+      record {
+        refused = λ g. (rw e, refl);
+        accepted = λ g. absurd (omega (arith, refusal-is));
+        accurate = λ g. absurd (omega (arith, refusal-is));
+        handed-out = λ g. absurd (omega (arith, refusal-is));
+        kept = λ g j free. refl;
+      }
+
+  pub performed-accepted : (t : State) (left : List ℤ) → l .refusal ≤ 0 → t ≡ run (l .state) (calls-of words given) → left ≡ list-after (l .state) (calls-of words given) given
+      → Performed frame words given (record { refusal = 0; row = 0; made = t .k }) left
+  performed-accepted t left h et el =
+      let ok : frame-refusal frame ≡ 0 = omega (arith, refusal-is) in
+      let ft : t ≡ after frame (calls-of words given) = et ∙ ap (λ (x : Loaded). run (x .state) (calls-of words given)) e in
+      let fl : left ≡ list-after (loaded frame .state) (calls-of words given) given = el ∙ ap (λ (x : Loaded). list-after (x .state) (calls-of words given) given) e in
+      record {
+        refused = λ g. absurd (omega arith);
+        accepted = λ g. (rw ft, fl);
+        accurate = λ g. accurate frame ok (calls-of words given);
+        handed-out = λ g before rest part s m i a.
+            in-part frame ok (calls-of words given) before rest part given left fl s i (omega arith)
+            ∙ accurate frame ok (calls-of words given) .handed-out before rest part s (taken frame ok before (length part) m) i a;
+        kept = λ g j free. rw fl (kept-word (loaded frame .state) (order frame) words given j (start-order frame ok) free);
+      }

@@ -1,0 +1,77 @@
+-- Lists of calls as words, two words a call, with one list lent for all the readings (document 01, "Calls"):
+-- each readings call gets the next part of it. `Performed` is what `perform` of src/calls.rt ensures.
+use mathlib.Core.Path.{_≡_}
+use mathlib.Core.List.{List, [], _∷_, _++_}
+use Prim.Native.Nat.{ℕ, zero, suc, _+_, _<_, _≤_}
+use lib.IntN.{ℤ}
+use lib.ListN.{length, take, drop}
+use Rattle.integers.specs.Flat.{at}
+use Rattle.frame.specs.Frame.{frame-refusal, row-of, header-of, frame-numbers}
+use Rattle.recurrence.specs.Recurrence.{reading}
+use Rattle.state.specs.declared.State.{State}
+use Rattle.evaluator.specs.Evaluator.{loaded, least, readings-list}
+use Rattle.accuracy.specs.Accuracy.{order, base, last, true-digit, after, Accurate}
+use Rattle.accuracy.specs.Calls.{Call, advance, readings, state-after, budgets}
+use Rattle.accuracy.specs.declared.Evaluated.{Evaluated}
+
+-- ---- the calls that words name; `given` is what is left of the list lent
+
+-- 0 and a budget is advance. Any other word and a room is readings: its part is the next `room` words, or all
+-- that are left where fewer are
+abbrev pub call-of : ℕ → ℕ → List ℤ → Call
+call-of zero budget given = advance budget
+call-of (suc kind) room given = readings (take room given)
+
+-- how many words of the list a call gets
+abbrev pub room-of : Call → ℕ
+room-of (advance budget) = 0
+room-of (readings part) = length part
+
+-- each two words are a call; an odd word at the end is none
+unfoldable pub calls-of : List ℕ → List ℤ → List Call
+calls-of [] given = []
+calls-of (kind ∷ []) given = []
+calls-of (kind ∷ value ∷ words) given = call-of kind value given ∷ calls-of words (drop (room-of (call-of kind value given)) given)
+
+-- ---- what the calls leave in the list
+
+-- how many words of it calls get in all: of the calls before a readings call, the place at which its part
+-- begins
+unfoldable pub place : List Call → ℕ
+place [] = 0
+place (c ∷ cs) = room-of c + place cs
+
+-- a call's part after it
+abbrev pub part-after : State → Call → List ℤ
+part-after s (advance budget) = []
+part-after s (readings part) = readings-list s part
+
+-- the parts after the calls, side by side: each call gets the state that the call before gave back or left
+unfoldable pub parts-after : State → List Call → List ℤ
+parts-after s [] = []
+parts-after s (c ∷ cs) = part-after s c ++ parts-after (state-after s c) cs
+
+-- the whole list after the calls: the words past the last part are as they were
+abbrev pub list-after : State → List Call → List ℤ → List ℤ
+list-after s calls given = parts-after s calls ++ drop (place calls) given
+
+-- no readings call among them hands one of its n readings to word j
+abbrev pub Untouched : ℕ → List Call → ℕ → Type 0
+Untouched n calls j = (before rest : List Call) (part : List ℤ) → calls ≡ before ++ (readings part ∷ rest) → n ≤ length part → place before ≤ j → j < place before + n → ⊥
+
+-- ---- the promise: `given` is the list lent, `left` what is in it afterwards
+
+pub record Performed (frame words : List ℕ) (given : List ℤ) (r : Evaluated) (left : List ℤ) : Type 0 where
+  -- a refused frame: its number and row, no call made and nothing handed out
+  pub refused : 0 < frame-refusal frame → (r ≡ record { refusal = frame-refusal frame; row = row-of (frame-refusal frame) (header-of frame) (frame-numbers frame); made = 0 }) × (left ≡ given)
+  -- an accepted one: the steps that the calls made in all, and the list as the calls leave it
+  pub accepted : frame-refusal frame ≡ 0 →
+      (r ≡ record { refusal = 0; row = 0; made = after frame (calls-of words given) .k }) × (left ≡ list-after (loaded frame .state) (calls-of words given) given)
+  -- demand 3 of just these calls
+  pub accurate : frame-refusal frame ≡ 0 → Accurate frame (calls-of words given)
+  -- and of every word handed out: a readings call whose part has a word for each row leaves in it each row's
+  -- reading at the steps made by then
+  pub handed-out : frame-refusal frame ≡ 0 → (before rest : List Call) (part : List ℤ) → calls-of words given ≡ before ++ (readings part ∷ rest) → order frame ≤ length part → (i : ℕ) → i < order frame →
+      at left (place before + i) ≡ reading (base frame) (true-digit frame) (least (last frame) (budgets before)) i
+  -- every other word is as it was
+  pub kept : frame-refusal frame ≡ 0 → (j : ℕ) → Untouched (order frame) (calls-of words given) j → at left j ≡ at given j

@@ -1,0 +1,82 @@
+// The calls themselves, one by one: load, then advances and readings in any order. Demand 3 is about lists of
+// calls; `perform` runs one, and ensures the demand of it and of every word that it hands out
+// (specs/Perform.antt).
+ghost use mathlib.Core.Path.{_≡_};
+ghost use mathlib.Core.List.{_++_};
+ghost use lib.ListN.{drop};
+ghost use Rattle.accuracy.specs.Calls.{state-after, run};
+ghost use Rattle.accuracy.specs.Perform.{
+  call-of,
+  room-of,
+  calls-of,
+  part-after,
+  list-after,
+  Performed,
+};
+use crate::Evaluated;
+use state::State;
+
+// What a call leaves: the state, and how many words of the list it got.
+struct Made {
+    state: State,
+    room: usize,
+}
+
+// Makes one call: advance by `value` where `kind` is 0, and else readings, which get the first `value` words
+// of the list, or all of it where it has fewer.
+fn make_call(s: State, kind: u64, value: u64, list: &mut [i64]) -> Made
+    ensures made { λ r. ⌜ r ≡ record { state = state-after s (call-of kind value (now (list .entry))); room = room-of (call-of kind value (now (list .entry))) } ⌝ }
+    ensures list { λ r. ⌜ now (list .exit) ≡ part-after s (call-of kind value (now (list .entry))) ++ drop (room-of (call-of kind value (now (list .entry)))) (now (list .entry)) ⌝ }
+{
+    if kind == 0 {
+        let a = evaluator::advance(s, value);
+        let t = a.state;
+        return Made { state: t, room: 0 };
+    }
+    let room = evaluator::least(value, list.len() as u64) as usize;
+    evaluator::readings(s, &mut list[..room]);
+    Made { state: s, room }
+}
+
+// Makes the calls that the words name, one after the other, and gives the state that the last leaves. Each
+// readings call gets the next part of the list.
+fn make_calls(s: State, words: &[u64], list: &mut [i64]) -> State
+    ensures state { λ r. ⌜ r ≡ run s (calls-of (now (words .entry)) (now (list .entry))) ⌝ }
+    ensures list { λ r. ⌜ now (list .exit) ≡ list-after s (calls-of (now (words .entry)) (now (list .entry))) (now (list .entry)) ⌝ }
+{
+    let mut t = s;
+    let mut place: usize = 0;
+    let mut i: usize = 0;
+    while 2 <= words.len() - i {
+        let m = make_call(t, words[i], words[i + 1], &mut list[place..]);
+        let next = m.state;
+        t = next;
+        place = place + m.room;
+        i += 2;
+    }
+    t
+}
+
+// Loads a frame and makes the calls that the words name. Two words are a call: 0 and a budget is advance, any
+// other word and a room is readings, which get the next `room` words of `out`, or all that are left where
+// fewer are; an odd word at the end is no call. Refused as load is, by 1 to 9: no call is then made, and no
+// word of `out` changed. A call of the list that is refused changes nothing, and those after it are made.
+pub fn perform(frame: &[u8], words: &[u64], out: &mut [i64]) -> Evaluated
+    ensures { λ r. ⌜ Performed (now (frame .entry)) (now (words .entry)) (now (out .entry)) r (now (out .exit)) ⌝ }
+{
+    let l = evaluator::load(frame);
+    if 0 < l.refusal {
+        return Evaluated {
+            refusal: l.refusal,
+            row: l.row,
+            made: 0,
+        };
+    }
+    let s = l.state;
+    let t = make_calls(s, words, out);
+    Evaluated {
+        refusal: 0,
+        row: 0,
+        made: t.k,
+    }
+}
