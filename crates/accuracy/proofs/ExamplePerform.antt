@@ -66,21 +66,21 @@ module _ (r : Evaluated) (left : List ℤ) (p : Performed frame-A words-A given-
   -- was, and so is the word past the parts
   list-A : left ≡ pos 1 ∷ pos 2 ∷ pos 72 ∷ pos 5 ∷ pos 8 ∷ pos 75 ∷ []
   unfolding words-A given-A calls-of parts-after place readings-list readings-checks frame-A calls.run loaded advanced advance-checks steps-made steps one-step fresh breaks-limit beyond frame-checks field number bits run decode curve-entry matrix right-side first-row-from weight total dot sum list-from stores stepped-digits stepped-residuals shifted next-digit next-residual select digit-size reading
-  list-A = p .accepted accepted-A .1
+  list-A = p .accepted (omega (arith, accepted-A)) .1
 
   -- by demand 3 four steps are made
   answer-A : r ≡ record { refusal = 0; row = 0; made = 4 }
   unfolding words-A given-A calls-of budgets frame-A field number bits
-  answer-A = p .accepted accepted-A .0 ∙ ap (λ (k : ℕ). record { refusal = 0; row = 0; made = k }) (p .accurate accepted-A .steps-made)
+  answer-A = p .accepted (omega (arith, accepted-A)) .0 ∙ ap (λ (k : ℕ). record { refusal = 0; row = 0; made = k }) (p .accurate (omega (arith, accepted-A)) .steps-made)
 
   -- and the fourth word is row 1's reading
   word-A : at left 3 ≡ pos 5
   unfolding before-A place budgets frame-A field number bits run decode curve-entry matrix right-side dot sum digit residual shifted next-digit next-residual select digit-size reading
-  word-A = p .handed-out accepted-A before-A [] (pos 73 ∷ pos 74 ∷ []) calls-A (omega arith) 0 (omega arith)
+  word-A = p .handed-out (omega (arith, accepted-A)) before-A [] (pos 73 ∷ pos 74 ∷ []) calls-A (omega arith) 0 (omega arith)
 
   kept-A : at left 2 ≡ pos 72
   unfolding frame-A given-A field number bits
-  kept-A = p .kept accepted-A 2 third-A
+  kept-A = p .kept (omega (arith, accepted-A)) 2 third-A
 
 -- ---- D: refused by 8, with row 1
 

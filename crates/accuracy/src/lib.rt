@@ -6,7 +6,7 @@ ghost use Rattle.evaluator.specs.Evaluator.{least};
 ghost use Rattle.accuracy.specs.Calls.{budgets, advances};
 ghost use Rattle.accuracy.specs.Promise.{Promise};
 
-mod calls;
+mod calls; // calls.rt: a list of calls, made one by one
 
 pub use calls::perform;
 
