@@ -24,7 +24,7 @@ use Rattle.accuracy.specs.Calls as calls
 use Rattle.accuracy.specs.Calls.{Call, advance, readings, budgets}
 use Rattle.accuracy.specs.Perform.{room-of, calls-of, place, parts-after, Untouched, Performed}
 use Rattle.accuracy.specs.declared.Evaluated.{Evaluated}
-use Rattle.accuracy.proofs.Examples.{frame-A}
+use Rattle.accuracy.proofs.ExampleA.{frame-A, accepted-A}
 
 -- ---- A: advances by 2, 0 and 9, and readings of no word, of three and of two; by 0 and of no word are refused
 
@@ -42,10 +42,6 @@ before-A = advance 2 ∷ readings [] ∷ readings (pos 70 ∷ pos 71 ∷ pos 72 
 calls-A : calls-of words-A given-A ≡ before-A ++ (readings (pos 73 ∷ pos 74 ∷ []) ∷ [])
 unfolding words-A given-A before-A calls-of
 calls-A = refl
-
-accepted-A : frame-refusal frame-A ≡ 0
-unfolding frame-A frame-checks field number bits run decode curve-entry matrix right-side first-row-from weight total
-accepted-A = refl
 
 -- no reading goes to the third word, which is the last of a part of three
 third-A : Untouched 2 (calls-of words-A given-A) 2
