@@ -1,103 +1,356 @@
-// The cases of document 01, marked or not: each frame is printed as `edigits` prints it, and after an accepted one comes a line with the bytes of its
-// trace after all steps. What it prints is held to the file `stdout`, which says what the table of specs/Table.antt says.
-fn print_space() {
-    io::write_all(1, b" ");
+// Document 01's cases, run and held against the table of specs/Table.antt, which is proved of the definitions.
+//
+// For each row the calls are made, and what they answer and hand out is compared with the row's words, part by
+// part. A case that differs has a line with its number, from 1, and what differs first. The last line says how
+// many cases there are and how many differ.
+mod table;
+
+ghost use mathlib.Core.Path.{_≡_};
+ghost use mathlib.Core.Bool.{true};
+ghost use Prim.Native.Nat.{_+_, _≤_, _<_};
+ghost use lib.IntN.{pos};
+ghost use Rattle.integers.specs.Flat.{at};
+ghost use Rattle.cases.specs.Words.{Said, Listed};
+use state::State;
+
+// What differs first between a run and its row.
+enum Part {
+    Nothing,
+    Refusal,
+    Row,
+    Numbers,
+    Digits,
+    Readings,
+    Trace,
 }
 
-fn print_newline() {
-    io::write_all(1, b"\n");
+// The word at a place, and 0 past the last.
+fn word(t: &[i64], place: usize) -> i64
+    ensures { λ r. ⌜ r ≡ at (now (t .entry)) place ⌝ }
+{
+    if place < t.len() { t[place] } else { 0 }
 }
 
-// A byte in decimal.
-fn print_byte(x: u8) {
-    io::print_decimal(1, x as u64);
+// A natural number as one with a sign.
+fn signed(n: usize) -> i64
+    requires { ⌜ n ≤ 1431 ⌝ }
+    ensures { λ r. ⌜ r ≡ pos n ⌝ }
+{
+    integers::to_signed(n as u64)
 }
 
-// The first n bytes in decimal with one space between, as a line.
-fn print_bytes(s: &[u8], n: usize) {
+// A word as a natural number; 0 for one that is negative or past the bytes of the longest frame, as no size and
+// no byte is.
+fn natural(z: i64) -> usize
+    ensures { λ r. ⌜ r ≤ 1431 ⌝ }
+{
+    if z < 0 || 1431 < z {
+        return 0;
+    }
+    integers::to_unsigned(z) as usize
+}
+
+// Whether the word at a place is the number n.
+fn says(t: &[i64], place: usize, n: usize) -> bool
+    ensures { λ r. ⌜ (r ≡ true → Said (now (t .entry)) place n) ⌝ }
+{
+    n <= 1431 && word(t, place) == signed(n)
+}
+
+// How many words follow, by the word at a place.
+fn size(t: &[i64], place: usize) -> usize
+    ensures { λ r. ⌜ r ≤ 1431 ⌝ }
+{
+    natural(word(t, place))
+}
+
+// The place after a list, which starts with its size.
+fn past(t: &[i64], place: usize) -> usize
+    ensures { λ r. ⌜ r ≤ 12000 ⌝ }
+{
+    if 10000 < place {
+        return 10000;
+    }
+    place + 1 + size(t, place)
+}
+
+// The place after the rows of digits, which start with how many there are.
+fn past_rows(t: &[i64], place: usize) -> usize
+    requires { ⌜ place ≤ 12000 ⌝ }
+    ensures { λ r. ⌜ r ≤ 12001 ⌝ }
+{
+    let n = size(t, place);
+    let mut p = place + 1;
     let mut i: usize = 0;
-    while i < s.len() && i < n {
-        if 0 < i {
-            print_space();
-        }
-        print_byte(s[i]);
+    while i < n {
+        p = past(t, p);
         i += 1;
     }
-    print_newline();
+    p
 }
 
-// The text of a frame, as `edigits` prints it. The buffer has room enough; of a refused call the length is 0, and nothing is written.
-fn print_text(frame: &[u8]) {
-    let mut out = io::large_buffer();
-    let r = printout::print_frame(frame, &mut out);
-    let end = r.length;
-    io::write_all(1, &out[..end]);
+// Whether the list at a place is the first n numbers of v.
+fn same_list(t: &[i64], place: usize, v: &[i64], n: usize) -> bool
+    requires { ⌜ place ≤ 20001 ⌝ }
+    ensures { λ r. ⌜ (r ≡ true → Listed (now (t .entry)) place (now (v .entry)) n) ⌝ }
+{
+    if v.len() < n || !says(t, place, n) {
+        return false;
+    }
+    let mut i: usize = 0;
+    while i < n {
+        if word(t, place + 1 + i) != v[i] {
+            return false;
+        }
+        i += 1;
+    }
+    true
 }
 
-// The trace of an accepted frame after all steps.
-fn print_trace(frame: &[u8]) {
+// Whether the refusal and the row at a place are those of the frame reader, and the list after them the numbers
+// that it hands out, none with a refusal.
+fn same_numbers(t: &[i64], place: usize, frame: &[u8]) -> bool
+    requires { ⌜ place ≤ 12000 ⌝ }
+{
+    let mut v = [0i64; 272];
+    let a = frame::read_frame(frame, &mut v);
+    if !says(t, place, a.refusal) || !says(t, place + 1, a.row) || 16 < a.header.n {
+        return false;
+    }
+    if a.refusal != 0 {
+        return same_list(t, place + 2, &v, 0);
+    }
+    same_list(t, place + 2, &v, job::count(a.header))
+}
+
+// A byte as a number with a sign.
+fn widened(x: u8) -> i64
+    ensures { λ r. ⌜ r ≡ pos x ⌝ }
+{
+    signed(x as usize)
+}
+
+// The bytes of a trace as numbers with a sign.
+fn trace_words(b: &[u8; 604]) -> [i64; 604] {
+    let mut out = [0i64; 604];
+    let mut i: usize = 0;
+    while i < 604 {
+        out[i] = widened(b[i]);
+        i += 1;
+    }
+    out
+}
+
+// The digits of the row i of k steps, and zeros after them.
+fn row_digits(d: &[i8; 960], i: usize, k: usize) -> [i64; 60] {
+    let mut out = [0i64; 60];
+    if 16 <= i {
+        return out;
+    }
+    let mut j: usize = 0;
+    while j < 60 {
+        if k <= j {
+            return out;
+        }
+        out[j] = integers::widen(d[16 * j + i]);
+        j += 1;
+    }
+    out
+}
+
+// Whether the rows at a place are those of the digits, n rows of k steps.
+fn same_digits(t: &[i64], place: usize, d: &[i8; 960], n: usize, k: usize) -> bool
+    requires { ⌜ place ≤ 20000 ⌝ }
+{
+    if !says(t, place, n) {
+        return false;
+    }
+    let mut p = place + 1;
+    let mut i: usize = 0;
+    while i < n {
+        let row = row_digits(d, i, k);
+        if !same_list(t, p, &row, k) {
+            return false;
+        }
+        p = past(t, p);
+        i += 1;
+    }
+    true
+}
+
+// Whether the list at a place is the readings of the state, none with a refusal.
+fn same_readings(t: &[i64], place: usize, s: State) -> bool
+    requires { ⌜ place ≤ 20000 ⌝ }
+{
+    let mut v = [0i64; 16];
+    let n = s.header.n;
+    let refusal = evaluator::readings(s, &mut v);
+    if refusal != 0 {
+        return same_list(t, place, &v, 0);
+    }
+    same_list(t, place, &v, n)
+}
+
+// Whether the list at a place is the bytes of the state's trace, none with a refusal.
+fn same_trace(t: &[i64], place: usize, s: State) -> bool
+    requires { ⌜ place ≤ 20000 ⌝ }
+{
+    let mut out = [0u8; 604];
+    let r = trace::record_of(s);
+    let w = trace::write_trace(r.trace, &mut out);
+    let words = trace_words(&out);
+    same_list(t, place, &words, w.length)
+}
+
+// What differs first, of a frame and the row whose refusal stands at the place. With a refusal the state is
+// idle: it has no rows and no steps, and no readings and no trace are handed out.
+fn difference(t: &[i64], place: usize, frame: &[u8]) -> Part
+    requires { ⌜ place ≤ 12000 ⌝ }
+{
     let l = evaluator::load(frame);
-    if l.refusal != 0 {
-        return;
+    if !says(t, place, l.refusal) {
+        return Part::Refusal;
+    }
+    if !says(t, place + 1, l.row) {
+        return Part::Row;
+    }
+    if !same_numbers(t, place, frame) {
+        return Part::Numbers;
     }
     let a = evaluator::advance(l.state, 60);
-    let t = trace::record_of(a.state);
-    let mut out = io::buffer();
-    let w = trace::write_trace(t.trace, &mut out);
-    print_bytes(&out, w.length);
+    let s = a.state;
+    let digits = past(t, place + 2);
+    if !same_digits(t, digits, &s.digits, s.header.n, s.k) {
+        return Part::Digits;
+    }
+    let readings = past_rows(t, digits);
+    if !same_readings(t, readings, s) {
+        return Part::Readings;
+    }
+    if !same_trace(t, past(t, readings), s) {
+        return Part::Trace;
+    }
+    Part::Nothing
 }
 
-// One case.
-fn run(frame: &[u8]) {
-    print_text(frame);
-    print_trace(frame);
+// A word as a byte, as all words of a frame are.
+fn byte(z: i64) -> u8 {
+    (natural(z) % 256) as u8
 }
 
-// A, B and C: digits and readings.
-fn run_digits() {
-    run(b"\x01\x10\x44\x10\x32\x00");
-    run(b"\x41\x10\x45\x08\x80\x04");
-    run(b"\x81\x10\x04\x30\x80");
+// The frame at a place, as bytes.
+fn frame_bytes(t: &[i64], place: usize) -> [u8; 1431]
+    requires { ⌜ place ≤ 20000 ⌝ }
+{
+    let n = size(t, place);
+    let mut out = [0u8; 1431];
+    let mut i: usize = 0;
+    while i < n {
+        out[i] = byte(word(t, place + 1 + i));
+        i += 1;
+    }
+    out
 }
 
-// D and E: x 5, and p_0 9, 8, -8 and -9 in A.
-fn run_edges() {
-    run(b"\x01\x10\x44\x14\x32\x00");
-    run(b"\x01\x10\x44\x10\x92\x00");
-    run(b"\x01\x10\x44\x10\x82\x00");
-    run(b"\x01\x10\x44\x13\x82\x00");
-    run(b"\x01\x10\x44\x13\x72\x00");
+fn print_text(s: &[u8]) {
+    io::write_all(1, s);
 }
 
-// F and G: radix 4 with p 2 and 3, and order 1.
-fn run_radixes() {
-    run(b"\x12\x10\x44\x04\x32\x00");
-    run(b"\x12\x10\x44\x08\x32\x00");
-    run(b"\x13\x10\x44\x08\x32\x00");
-    run(b"\x13\x10\x44\x0c\x32\x00");
-    run(b"\x01\x10\x04\x7c\x80");
+// The line of a case that differs, which counts as one.
+fn differs(number: usize, what: &[u8]) -> u64
+    ensures { λ r. ⌜ r ≤ 1 ⌝ }
+{
+    print_text(b"case ");
+    io::print_decimal(1, number as u64);
+    print_text(b" differs: ");
+    print_text(what);
+    print_text(b"\n");
+    1
 }
 
-// H: refusals and their order.
-fn run_refusals() {
-    run(b"\x01\x10\x44\x14\x92\x00");
-    run(b"");
-    run(b"\x01\x10\x44\x10\x32\x01");
-    run(b"\x01\x10\x44\x10\x32\x00\x00");
+// Says what differs of a case; how many cases that makes, 1 or 0.
+fn report(number: usize, d: Part) -> u64
+    ensures { λ r. ⌜ r ≤ 1 ⌝ }
+{
+    match d {
+        Part::Nothing => 0,
+        Part::Refusal => differs(number, b"refusal"),
+        Part::Row => differs(number, b"row"),
+        Part::Numbers => differs(number, b"numbers"),
+        Part::Digits => differs(number, b"digits"),
+        Part::Readings => differs(number, b"readings"),
+        Part::Trace => differs(number, b"trace"),
+    }
 }
 
-// The edges of m: 60 and 61 at radix 2, 15 and 16 at radix 16.
-fn run_steps() {
-    run(b"\x01\x10\x7c\x10\x32\x00");
-    run(b"\x01\x10\x7d\x10\x32\x00");
-    run(b"\x38\x10\x4f\x00\x32\x00");
-    run(b"\x38\x10\x50\x00\x32\x00");
+// Runs the case whose row starts at the place, with the number of its words.
+fn run(t: &[i64], place: usize, number: usize) -> u64
+    requires { ⌜ place ≤ 12000 ⌝ }
+    ensures { λ r. ⌜ r ≤ 1 ⌝ }
+{
+    let n = size(t, place + 1);
+    let bytes = frame_bytes(t, place + 1);
+    let d = difference(t, past(t, place + 1), &bytes[..n]);
+    report(number, d)
+}
+
+// Whether the first n bytes of the buffer are the text.
+fn same_text(out: &[u8], n: usize, text: &[u8]) -> bool {
+    if text.len() != n || out.len() < n {
+        return false;
+    }
+    let mut i: usize = 0;
+    while i < n {
+        if out[i] != text[i] {
+            return false;
+        }
+        i += 1;
+    }
+    true
+}
+
+// Whether a frame is printed as the text, in the way of `edigits`.
+fn prints(frame: &[u8], text: &[u8]) -> bool {
+    let mut out = io::large_buffer();
+    let r = printout::print_frame(frame, &mut out);
+    same_text(&out, r.length, text)
+}
+
+// The text of A, as document 01 has it, and that of D, which is refused.
+fn compare_texts() {
+    if !prints(
+        b"\x01\x10\x44\x10\x32\x00",
+        b"0 2 1 4 2 4\n1 0 1\n2 1 0\n3 1 0\n4 -1 0\n= 5 8\n",
+    ) {
+        print_text(b"the text of A differs\n");
+    }
+    if !prints(b"\x01\x10\x44\x14\x32\x00", b"refused 8 1\n") {
+        print_text(b"the text of D differs\n");
+    }
+}
+
+// Runs all cases; how many differ.
+fn run_all(t: &[i64], n: usize) -> u64
+    requires { ⌜ n ≤ 1000 ⌝ }
+{
+    let mut differ: u64 = 0;
+    let mut place: usize = 0;
+    let mut i: usize = 0;
+    while i < n {
+        differ += run(t, place, i + 1);
+        place = past(t, place);
+        i += 1;
+    }
+    differ
 }
 
 fn main() {
-    run_digits();
-    run_edges();
-    run_radixes();
-    run_refusals();
-    run_steps();
+    let t = table::words();
+    let n = table::rows();
+    let differ = run_all(&t, n);
+    compare_texts();
+    io::print_decimal(1, n as u64);
+    print_text(b" cases, ");
+    io::print_decimal(1, differ);
+    print_text(b" differ\n");
 }

@@ -1,0 +1,14 @@
+-- The words of the table are computed.
+use mathlib.Core.Path.{refl}
+use mathlib.Core.List.{flatMap}
+use Rattle.cases.specs.Table.{table}
+use Rattle.cases.specs.Words.{table-words}
+use Rattle.cases.proofs.table.words.Statement.{statement}
+use Rattle.cases.proofs.table.words.Tie as tie
+
+returns : tie.Need-returns
+unfolding table-words flatMap table
+returns c = refl
+
+pub words-spec : {M : Type 1} → statement M
+words-spec = tie.close (tie.spec returns)
