@@ -16,9 +16,7 @@ use Rattle.integers.specs.Sum.{sum}
 use Rattle.bitfields.specs.Layout.{field, number, bits, run}
 use Rattle.bitfields.specs.Twos.{decode}
 use Rattle.job.specs.System.{curve-entry, system-entry, matrix, right-side}
-use Rattle.recurrence.specs.System.{Solves}
 use Rattle.accuracy.specs.Accuracy.{order, unit-of, G, b}
-use Rattle.cases.specs.Outcome.{Outcome}
 use Rattle.cases.specs.Table.{Case, table}
 use Rattle.cases.specs.Values.{Exact, ValuesExact}
 

@@ -3,7 +3,7 @@
 -- them and compares.
 use mathlib.Core.Path.{_≡_, refl}
 use mathlib.Core.List.{List, [], _∷_, map}
-use Prim.Native.Nat.{ℕ, zero, suc}
+use Prim.Native.Nat.{ℕ}
 use lib.IntN.{ℤ, pos, negℤ}
 use lib.ListN.{length, replicate}
 use Rattle.integers.specs.Flat.{list-from, stores}
@@ -173,7 +173,7 @@ table =
     -- H: x 5 and p_0 9 together
     refused (1 ∷ 16 ∷ 68 ∷ 20 ∷ 146 ∷ 0 ∷ []) 8 1 ∷
     -- H: an empty frame
-    refused ([]) 1 0 ∷
+    refused [] 1 0 ∷
     -- H: A with last byte 01
     refused (1 ∷ 16 ∷ 68 ∷ 16 ∷ 50 ∷ 1 ∷ []) 7 0 ∷
     -- H: A with a byte more

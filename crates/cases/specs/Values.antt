@@ -6,7 +6,6 @@ use Prim.Native.Nat.{_<_}
 use lib.ListN.{length}
 use Rattle.integers.specs.Flat.{at}
 use Rattle.accuracy.specs.Accuracy.{order, ExactValues}
-use Rattle.cases.specs.Outcome.{Outcome}
 use Rattle.cases.specs.Table.{Case, table}
 
 -- the values are one a row, over a denominator above 0, and exact: A times their vector is b

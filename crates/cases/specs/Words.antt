@@ -6,7 +6,6 @@ use Prim.Native.Nat.{ℕ, _+_, _<_, _≤_}
 use lib.IntN.{ℤ, pos}
 use lib.ListN.{length}
 use Rattle.integers.specs.Flat.{at}
-use Rattle.cases.specs.Outcome.{Outcome}
 use Rattle.cases.specs.Table.{Case, table}
 
 abbrev pub counted : List ℤ → List ℤ

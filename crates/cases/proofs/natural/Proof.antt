@@ -1,5 +1,4 @@
 -- What neither test stopped lies between its two bounds.
-use mathlib.Core.Path.{_≡_}
 use native.Mathlib.Omega.{arith}
 use borrow.Author.Needs.{needs}
 use mir.Syntax.{w64}
