@@ -1,5 +1,5 @@
--- Arrays and lists that are written entry by entry: the digits of a step copied out and stored, and a list's first words replaced. Cited by the
--- proofs of `last_digits`, `hand_on` and `readings`.
+-- Arrays and lists that are written entry by entry: the digits of a step copied out and stored, and a list's first
+-- words replaced. Cited by the proofs of `last_digits`, `store_digits` and `put_readings`.
 use mathlib.Core.Path.{_≡_, refl, sym, ap, _∙_}
 use mathlib.Core.Bool.{Bool, true, false, cond}
 use mathlib.Core.List.{List, _++_}
@@ -12,10 +12,7 @@ use lib.Signed.{mag}
 use mir.Syntax.{w8, w64}
 use mir.Val.{toZ, ofZ}
 use mir.Facts.{toZ-ofZ}
-use Rattle.integers.specs.Flat.{at, list-from, flat-vector, stores, stores-zero, length-list-from, getD-list-from}
-use Rattle.system.specs.Setup.{stores-more}
-use Rattle.recurrence.specs.Flat.{filled}
-use Rattle.recurrence.proofs.Stepped.{filled-zero, filled-next, filled-past}
+use Rattle.integers.specs.Flat.{at, list-from, flat-vector, length-list-from, getD-list-from}
 use Rattle.frame.proofs.Reader.{copy-turn}
 use Rattle.state.specs.Digits.{digits-of}
 
@@ -40,34 +37,6 @@ first-digits ds n k e = rw e (simp either)
 pub step-digit : (ds : List ℤ) (k i : ℕ) → (k ≡ 0 → ⊥) → at ds (16 * (k - 1) + i) ≡ digits-of ds k i
 step-digit ds zero i h = absurd (h refl)
 step-digit ds (suc k) i h = let e : suc k - 1 ≡ k = omega arith in rw e
-
--- ---- a step's digits stored, and two vectors that change places row by row
-
-module _ (k : ℕ) (ds before chosen : List ℤ) where
-  -- the rows below i are done
-  pub record Handed (i : ℕ) (ds′ before′ chosen′ : List ℤ) : Type 0 where
-    pub stored : ds′ ≡ stores ds (λ t. 16 * k + t) (at chosen) i
-    pub new-before : before′ ≡ filled (at chosen) before i
-    pub new-chosen : chosen′ ≡ filled (at before) chosen i
-
-  pub handed-none : Handed 0 ds before chosen
-  handed-none = record { stored = sym (stores-zero _ _ _); new-before = sym (filled-zero _ _); new-chosen = sym (filled-zero _ _) }
-
-  -- one row more: x is its digit before, y and z are what was read of the one chosen
-  pub handed-next : {i : ℕ} {ds′ before′ chosen′ : List ℤ} → Handed i ds′ before′ chosen′ → (x y z : ℤ) → x ≡ at before′ i → y ≡ at chosen′ i → z ≡ at chosen′ i
-      → Handed (i + 1) (set ds′ (16 * k + i) y) (set before′ i z) (set chosen′ i x)
-  handed-next {i} {ds′} {before′} {chosen′} h x y z ex ey ez =
-      record {
-        stored = stores-more ds (λ t. 16 * k + t) (at chosen) i ds′ y (h .stored) (ey ∙ still-chosen);
-        new-before = filled-next (at chosen) before i before′ z (h .new-before) (ez ∙ still-chosen);
-        new-chosen = filled-next (at before) chosen i chosen′ x (h .new-chosen) (ex ∙ still-before);
-      }
-    where
-      still-chosen : at chosen′ i ≡ at chosen i
-      still-chosen = rw (h .new-chosen) (filled-past (at before) chosen i i (omega arith))
-
-      still-before : at before′ i ≡ at before i
-      still-before = rw (h .new-before) (filled-past (at chosen) before i i (omega arith))
 
 -- ---- a list whose first words are replaced, one after the other
 

@@ -1,30 +1,35 @@
--- A loop over steps: a state's arrays after j of its steps, and one turn of the loop. Cited by the proofs of `run_by_rows`, `run_by_columns` and
+-- One step, and a loop over steps: what a step's calls ask and leave, the arrays after j steps of a state, and one
+-- turn of the loop. Cited by the proofs of `step_by_rows`, `step_by_columns`, `run_by_rows`, `run_by_columns` and
 -- `advance`.
 use mathlib.Core.Path.{_≡_, refl, sym, _∙_}
 use mathlib.Core.List.{List}
 use mathlib.Core.Logic.{_⊎_, inl, inr}
 use mathlib.Core.Bool.{Bool, true, cond}
-use Prim.Native.Nat.{ℕ, zero, suc, _+_, _*_, _<_, _≤_}
+use Prim.Native.Nat.{ℕ, zero, suc, _+_, _*_, _<_, _≤_, _^_}
 use native.Mathlib.Numerals.{add-one}
 use native.Mathlib.Omega.{arith}
 use borrow.Author.Tests.{le-ltb}
 use lib.Dec.{ltb}
 use lib.IntN.{ℤ, pos}
 use lib.ListN.{length, replicate, List·getD-eq-default}
+use lib.Pow.{pow-pos}
 use lib.Seq.{ext-getD}
 use Rattle.integers.specs.Flat.{at, flat-vector, at-flat-vector, length-list-from, getD-list-from, length-stores}
 use Rattle.integers.specs.Maximum.{le-or-lt}
 use Rattle.job.specs.Header.{radix}
 use Rattle.job.specs.Limits as limits
+use Rattle.job.specs.Rules.{inner-bits}
 use Rattle.job.specs.declared.Header.{Header}
-use Rattle.recurrence.specs.Flat.{filled, digit-from, residual-from, stepped-digits, Vector, Ready}
-use Rattle.recurrence.specs.Sums.{Summed}
-use Rattle.recurrence.proofs.Stepped.{vector-zeros, length-stepped-digits, stepped-digit-past, stepped-vector, filled-stepped, filled-left}
+use Rattle.recurrence.specs.Flat.{filled, digit-from, residual-from, Vector, Choosable, Ready}
+use Rattle.recurrence.specs.Sums.{row-dot, Summed, RowsSummable, Signs}
+use Rattle.recurrence.proofs.Ready.{rows-summable, digits-signs, choosable}
+use Rattle.recurrence.proofs.Stepped.{vector-zeros, length-stepped-digits, stepped-digit-past, filled-summed, length-filled, filled-stepped, filled-left, ready-next}
 use Rattle.state.specs.State.{state-unit}
 use Rattle.state.specs.Digits.{digits-of}
 use Rattle.state.specs.Sound.{Sound, state-of}
 use Rattle.state.specs.declared.State.{State}
 use Rattle.evaluator.specs.Evaluator.{last-digits, chosen-digits, left-residuals, digits-stored, one-step, steps}
+use Rattle.evaluator.specs.Step.{Between, MayStep, Stepped}
 use Rattle.evaluator.specs.Steppable.{Steppable}
 use Rattle.evaluator.proofs.Follow.{steps-header, steps-busy, steps-k, stored-same}
 use Rattle.evaluator.proofs.Kept.{steps-sound, ready}
@@ -55,18 +60,6 @@ module _ (n k : ℕ) (ds d : List ℤ) (order : n ≤ 16) (size : length d ≡ 1
           getD-list-from 0 16 (λ i. cond (ltb i n) (row i) (pos 0)) i l ∙ rw (e, le-ltb i n h) (sym (past i h))
       same i l (inr h) = at-flat-vector n row i order h ∙ stored-same n k ds d i h room order
 
--- ---- what the arrays hold after j steps
-
-pub record Reached (s : State) (j : ℕ) (ds z before chosen : List ℤ) : Type 0 where
-  pub digits : ds ≡ steps s j .digits
-  pub residuals : z ≡ steps s j .z
-  pub last : before ≡ last-digits (steps s j)
-  pub spare : Vector (s .header .n) chosen
-
-pub reached-start : (s : State) (before : List ℤ) → before ≡ last-digits s → Reached s 0 (s .digits) (s .z) before (replicate 16 (pos 0))
-unfolding steps
-reached-start s before e = record { digits = refl; residuals = refl; last = e; spare = vector-zeros (s .header .n) }
-
 steps-g : (s : State) (j : ℕ) → steps s j .g ≡ s .g
 unfolding steps one-step
 steps-g s zero = refl
@@ -95,64 +88,134 @@ pub steps-whole : (s : State) (j : ℕ) (z ds : List ℤ) → z ≡ steps s j .z
     → record { busy = s .busy; header = s .header; k = s .k + j; g = s .g; z = z; digits = ds } ≡ steps s j
 steps-whole s j z ds ez ed = state-is (steps s j) (sym (steps-busy s j)) (sym (steps-header s j)) (sym (steps-k s j)) (sym (steps-g s j)) ez ed
 
--- ---- one turn
-
 module _ {s : State} {made : ℕ} (b : Steppable s made) where
   pub last-small : s .k + made ≤ 60
   last-small = omega (arith, b .left, limits.last-small (s .header) (b .sound .limits))
 
-module _ {s : State} {made j : ℕ} {ds z before chosen : List ℤ} (b : Steppable s made) (l : j < made) (h : Reached s j ds z before chosen) where
+-- ---- one step
+
+-- the rows filled with their sums
+pub rows-summed : {n : ℕ} {g d s : List ℤ} (v : List ℤ) → length v ≡ 16 → n ≤ 16 → s ≡ filled (row-dot n g d) v n → (length s ≡ 16) × Summed n g d s
+rows-summed {n} {g} {d} v size order e = (rw e (length-filled (row-dot n g d) v n ∙ size), filled-summed v size order e)
+
+-- a step can be made with the digits of the step before
+pub first-ready : {s : State} {before : List ℤ} → Sound s → before ≡ last-digits s
+    → Ready (s .header .n) (radix (s .header .code)) (s .header .p) (state-unit s) (s .g) (s .z) before
+first-ready b e = rw e (ready _ b)
+
+module _ {s : State} {r bits : ℕ} {before chosen sums : List ℤ} (a : MayStep s r bits before chosen sums) where
+  abbrev n : ℕ
+  n = s .header .n
+
+  abbrev p : ℕ
+  p = s .header .p
+
+  abbrev u : ℕ
+  u = 2 ^ bits
+
+  few-bits : bits ≤ 40
+  few-bits = rw (a .bits-are) (limits.inner-bits-most (s .header) (a .steppable .sound .limits))
+
+  step-ready : Ready n r p u (s .g) (s .z) before
+  step-ready = rw (a .radix-is, a .bits-are) (first-ready (a .steppable .sound) (a .between .last))
+
+  pub may-choose : (bits ≤ 40) × Choosable n r p u (s .z) sums
+  may-choose = (few-bits, choosable few-bits step-ready (a .between .summed))
+
+  -- `new` has what `choose` left in the vector being chosen
+  module _ {new : List ℤ} (ec : new ≡ filled (digit-from r p u (s .z) sums) chosen n) where
+    new-is : new ≡ chosen-digits s
+    new-is =
+        ec ∙ filled-stepped (a .between .summed) r p u (s .z) (a .between .free) ∙ rw (a .radix-is, a .bits-are, a .between .last) refl
+
+    next-ready : Ready n (radix (s .header .code)) p u (s .g) (left-residuals s) new
+    next-ready = rw (a .bits-are) (ready-next (pow-pos (inner-bits (s .header))) (ready s (a .steppable .sound)) refl new-is)
+
+    -- the rows can be summed with it
+    pub may-sum : RowsSummable n (s .g) new
+    may-sum = rows-summable few-bits next-ready
+
+    pub new-signs : p ≡ 1 → Signs n new
+    new-signs e = digits-signs few-bits next-ready e
+
+    -- and the step is made: `z` and `ds` have what `choose` and `store_digits` left, and `sums′` the rows' sums
+    pub stepped : {z ds sums′ : List ℤ} → z ≡ filled (residual-from r p u (s .z) sums) (s .z) n → ds ≡ digits-stored n (s .k) (s .digits) new
+        → Summed n (s .g) new sums′ → Stepped s before z ds new before sums′
+    unfolding one-step
+    stepped ez ed es =
+        record {
+          residuals = ez ∙ filled-left (a .between .summed) r p u (s .z) ∙ rw (a .radix-is, a .bits-are, a .between .last) refl;
+          digits = ed ∙ rw new-is refl;
+          newest = new-is;
+          exchanged = refl;
+          summed = es;
+        }
+
+-- ---- a loop over steps
+
+-- what the arrays hold after j steps
+pub record Reached (s : State) (j : ℕ) (ds z before chosen sums : List ℤ) : Type 0 where
+  pub digits : ds ≡ steps s j .digits
+  pub residuals : z ≡ steps s j .z
+  pub between : Between (steps s j) before chosen sums
+
+pub reached-start : {s : State} {before sums : List ℤ} → before ≡ last-digits s → Summed (s .header .n) (s .g) before sums
+    → Reached s 0 (s .digits) (s .z) before (replicate 16 (pos 0)) sums
+unfolding steps
+reached-start {s} e h =
+    record { digits = refl; residuals = refl; between = record { last = e; free = vector-zeros (s .header .n); summed = h } }
+
+module _ {s : State} {made j : ℕ} {ds z before chosen sums : List ℤ} (b : Steppable s made) (l : j < made) (h : Reached s j ds z before chosen sums) where
   abbrev S : State
   S = steps s j
 
-  sound : Sound S
-  sound = steps-sound s j (b .sound) (omega (arith, b .left))
+  -- the state that the arrays make
+  abbrev now-is : State
+  now-is = state-of (s .busy) (s .header) (s .k + j) (s .g) z ds
 
-  -- the digits of the step before are a vector
-  pub reached-vector : Vector (s .header .n) before
-  reached-vector = rw (h .last, steps-header s j) (vector-flat (s .header .n) (digits-of (S .digits) (S .k)))
+  whole : now-is ≡ S
+  whole = steps-whole s j z ds (h .residuals) (h .digits)
 
-  module _ (r : ℕ) (radix-is : r ≡ radix (s .header .code)) where
-    -- the step can be made
-    pub reached-ready : Ready (s .header .n) r (s .header .p) (state-unit s) (s .g) z before
-    reached-ready = rw (h .residuals, h .last, radix-is, steps-header s j) (rw (steps-header s j, steps-g s j) at (ready S sound))
+  left : Steppable S 1
+  left =
+      record {
+        sound = steps-sound s j (b .sound) (omega (arith, b .left));
+        room = length-digits s j ∙ b .room;
+        left = rw (steps-header s j, steps-k s j) (omega (arith, b .left));
+      }
 
-    -- and one turn makes it: `sums` are the rows' sums, `new` and `next` are what `choose` left, and `ds′`, `before′` and `chosen′` what `hand_on` did
-    module _ {sums new next ds′ before′ chosen′ : List ℤ} (es : Summed (s .header .n) (s .g) before sums)
-        (ec : new ≡ filled (digit-from r (s .header .p) (state-unit s) z sums) chosen (s .header .n))
-        (en : next ≡ filled (residual-from r (s .header .p) (state-unit s) z sums) z (s .header .n))
-        (ed : ds′ ≡ digits-stored (s .header .n) (s .k + j) ds new) (eb : before′ ≡ new) (ef : chosen′ ≡ before) where
-      stepped-new : new ≡ stepped-digits (s .header .n) r (s .header .p) (state-unit s) (s .g) z before
-      stepped-new = ec ∙ filled-stepped es r (s .header .p) (state-unit s) z (h .spare)
+  -- one more can be made of it
+  pub reached-may : (r bits : ℕ) → r ≡ radix (s .header .code) → bits ≡ inner-bits (s .header) → MayStep now-is r bits before chosen sums
+  reached-may r bits e f =
+      rw whole
+      (record {
+        steppable = left;
+        radix-is = e ∙ rw (steps-header s j) refl;
+        bits-are = f ∙ rw (steps-header s j) refl;
+        between = h .between;
+      })
 
-      new-is : new ≡ chosen-digits S
-      new-is = stepped-new ∙ rw (h .residuals, h .last, radix-is, steps-header s j, steps-g s j) refl
+  -- and the digits that it chooses are found again where it stored them
+  copied : last-digits (one-step S) ≡ chosen-digits S
+  unfolding one-step
+  copied =
+      stored-copied (S .header .n) (S .k) (S .digits) (chosen-digits S) (left .sound .limits .order-most)
+      (length-stepped-digits (S .header .n) (radix (S .header .code)) (S .header .p) (state-unit S) (S .g) (S .z) (last-digits S))
+      (stepped-digit-past (S .header .n) (radix (S .header .code)) (S .header .p) (state-unit S) (S .g) (S .z) (last-digits S))
+      (omega (arith, left .room, last-small left))
 
-      next-is : next ≡ left-residuals S
-      next-is =
-          en ∙ filled-left es r (s .header .p) (state-unit s) z ∙ rw (h .residuals, h .last, radix-is, steps-header s j, steps-g s j) refl
-
-      stored-is : ds′ ≡ digits-stored (S .header .n) (S .k) (S .digits) (chosen-digits S)
-      stored-is = ed ∙ rw (h .digits, new-is, steps-header s j, steps-k s j) refl
-
-      copied : last-digits (one-step S) ≡ chosen-digits S
-      unfolding one-step
-      copied =
-          stored-copied (S .header .n) (S .k) (S .digits) (chosen-digits S) (sound .limits .order-most)
-          (length-stepped-digits (S .header .n) (radix (S .header .code)) (S .header .p) (state-unit S) (S .g) (S .z) (last-digits S))
-          (stepped-digit-past (S .header .n) (radix (S .header .code)) (S .header .p) (state-unit S) (S .g) (S .z) (last-digits S))
-          (omega (arith, steps-k s j, length-digits s j, b .room, last-small b))
-
-      pub new-vector : Vector (s .header .n) new
-      new-vector = rw stepped-new (stepped-vector (s .header .n) r (s .header .p) (state-unit s) (s .g) z before)
-
-      pub reached-next : Reached s (j + 1) ds′ next before′ chosen′
-      unfolding steps one-step
-      reached-next =
-          rw add-one
-          (record {
-            digits = stored-is;
-            residuals = next-is;
-            last = eb ∙ new-is ∙ sym copied;
-            spare = rw ef reached-vector;
-          })
+  pub reached-next : {ds′ z′ before′ chosen′ sums′ : List ℤ} → Stepped now-is before z′ ds′ before′ chosen′ sums′ → Reached s (j + 1) ds′ z′ before′ chosen′ sums′
+  unfolding steps one-step
+  reached-next {ds′} {z′} {before′} {chosen′} {sums′} t = rw add-one (turn (rw whole at t))
+    where
+      turn : Stepped S before z′ ds′ before′ chosen′ sums′ → Reached s (suc j) ds′ z′ before′ chosen′ sums′
+      turn q =
+          record {
+            digits = q .digits;
+            residuals = q .residuals;
+            between = record {
+              last = q .newest ∙ sym copied;
+              free = rw (q .exchanged, h .between .last) (vector-flat (S .header .n) (digits-of (S .digits) (S .k)));
+              summed = q .summed;
+            };
+          }

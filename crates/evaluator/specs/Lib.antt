@@ -1,4 +1,5 @@
 pub mod Evaluator
 pub mod Readable
+pub mod Step
 pub mod Steppable
 pub mod PastOrder

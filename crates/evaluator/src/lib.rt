@@ -22,8 +22,8 @@ ghost use lib.ListN.{length, drop};
 ghost use Rattle.integers.specs.Flat.{flat-vector, list-from};
 ghost use Rattle.job.specs.Header.{radix};
 ghost use Rattle.job.specs.Refusal.{first-refusal};
-ghost use Rattle.recurrence.specs.Flat.{Vector};
 ghost use Rattle.recurrence.specs.Recurrence.{reading};
+ghost use Rattle.recurrence.specs.Sums.{Starts, Ends, Products};
 ghost use Rattle.state.specs.Digits.{digits-of};
 ghost use Rattle.state.specs.Sound.{state-of};
 ghost use Rattle.state.specs.State.{idle-state};
@@ -38,6 +38,7 @@ ghost use Rattle.evaluator.specs.Evaluator.{
   readings-list,
 };
 ghost use Rattle.evaluator.specs.Readable.{Readable, RowsReadable};
+ghost use Rattle.evaluator.specs.Step.{MayStep, Stepped};
 ghost use Rattle.evaluator.specs.Steppable.{Steppable};
 use job::Header;
 use state::State;
@@ -116,20 +117,15 @@ fn last_digits(digits: &[i8; 960], k: usize, n: usize) -> [i8; 16]
     d
 }
 
-// Stores the digits chosen in the step after the k-th, in the rows below n, and lets the two vectors change places: what was chosen is the step
-// before of the next one. Row by row, since 16 digits copied at once wait for the single ones just written.
-fn hand_on(digits: &mut [i8; 960], k: usize, n: usize, before: &mut [i8; 16], chosen: &mut [i8; 16])
-    requires { ⌜ (k < 60) × (n ≤ 16) × Vector n (now before) × Vector n (now chosen) ⌝ }
-    ensures stored { λ _. ⌜ now (digits .exit) ≡ digits-stored n k (now (digits .entry)) (now (chosen .entry)) ⌝ }
-    ensures swapped { λ _. ⌜ (now (before .exit) ≡ now (chosen .entry)) × (now (chosen .exit) ≡ now (before .entry)) ⌝ }
+// Stores the digits chosen in the step after the k-th, in the rows below n.
+fn store_digits(digits: &mut [i8; 960], k: usize, n: usize, chosen: &[i8; 16])
+    requires { ⌜ (k < 60) × (n ≤ 16) ⌝ }
+    ensures { λ _. ⌜ now (digits .exit) ≡ digits-stored n k (now (digits .entry)) (now (chosen .entry)) ⌝ }
 {
     let base = 16 * k;
     let mut i: usize = 0;
     while i < n {
-        let swap = before[i];
         digits[base + i] = chosen[i];
-        before[i] = chosen[i];
-        chosen[i] = swap;
         i += 1;
     }
 }
@@ -157,8 +153,45 @@ pub fn least(a: u64, b: u64) -> u64
     if a <= b { a } else { b }
 }
 
-// Makes the steps with each row summed over the columns in which it has entries. The digits of the step before and those being chosen are two arrays
-// that change places at each step.
+// The digits of the step before and those being chosen.
+struct Vectors {
+    before: [i8; 16],
+    chosen: [i8; 16],
+}
+
+// The step after the k-th, with each row summed over the columns in which it has entries. Both vectors go in
+// and come back by value, and change places: the digits chosen are the step before of the next step. `sums` has
+// the rows' sums with the step before, and is left with those of the next step. They are made here, from the
+// vector just chosen: its copy waits for the single digits just written, and a sum from the copy would wait too.
+fn step_by_rows<'a>(
+    h: Header,
+    r: usize,
+    bits: usize,
+    k: usize,
+    g: &'a [i64; 256],
+    first: &'a [usize; 16],
+    past: &'a [usize; 16],
+    before: [i8; 16],
+    mut chosen: [i8; 16],
+    sums: &mut [i64; 16],
+    z: &mut [i64; 16],
+    digits: &mut [i8; 960],
+) -> Vectors
+    requires { ⌜ MayStep (state-of true h k (now g) (now z) (now digits)) r bits before chosen (now sums) × Starts (h .n) (now g) (now first) × Ends (h .n) (now g) (now past) × (length (now sums) ≡ 16) ⌝ }
+    ensures step { λ v. ⌜ Stepped (state-of true h k (now (g .entry)) (now (z .entry)) (now (digits .entry))) before (now (z .exit)) (now (digits .exit)) (v .before) (v .chosen) (now (sums .exit)) ⌝ }
+    ensures size { λ _. ⌜ length (now (sums .exit)) ≡ 16 ⌝ }
+{
+    let n = h.n;
+    recurrence::choose(sums, z, &mut chosen, n, r, bits, h.p);
+    recurrence::row_sums(g, first, past, &chosen, n, sums);
+    store_digits(digits, k, n, &chosen);
+    Vectors {
+        before: chosen,
+        chosen: before,
+    }
+}
+
+// Makes the steps with each row summed over the columns in which it has entries.
 fn run_by_rows(
     h: Header,
     k: usize,
@@ -173,21 +206,64 @@ fn run_by_rows(
 {
     let n = h.n;
     let r = job::radix(h.code);
+    let bits = job::inner_bits(h);
     let first = recurrence::first_entries(g, n);
     let past = recurrence::past_entries(g, n);
-    let mut sums = [0i64; 16];
     let mut before = last_digits(digits, k, n);
     let mut chosen = [0i8; 16];
+    let mut sums = [0i64; 16];
+    recurrence::row_sums(g, &first, &past, &before, n, &mut sums);
     let mut j: usize = 0;
     while j < made {
-        recurrence::row_sums(g, &first, &past, &before, n, &mut sums);
-        recurrence::choose(&sums, z, &mut chosen, n, r, h.f, h.p);
-        hand_on(digits, k + j, n, &mut before, &mut chosen);
+        let v = step_by_rows(
+            h,
+            r,
+            bits,
+            k + j,
+            g,
+            &first,
+            &past,
+            before,
+            chosen,
+            &mut sums,
+            z,
+            digits,
+        );
+        before = v.before;
+        chosen = v.chosen;
         j += 1;
     }
 }
 
-// The same in radix 2 with the products looked up in a table, column by column.
+// The same step in radix 2 with the products looked up in a table, column by column. The table is that of g, which
+// the contract alone names.
+fn step_by_columns<'a>(
+    h: Header,
+    r: usize,
+    bits: usize,
+    k: usize,
+    g: &'a [i64; 256],
+    table: &'a [i64; 768],
+    before: [i8; 16],
+    mut chosen: [i8; 16],
+    sums: &mut [i64; 16],
+    z: &mut [i64; 16],
+    digits: &mut [i8; 960],
+) -> Vectors
+    requires { ⌜ MayStep (state-of true h k (now g) (now z) (now digits)) r bits before chosen (now sums) × Products (h .n) (now g) (now table) × (h .p ≡ 1) ⌝ }
+    ensures { λ v. ⌜ Stepped (state-of true h k (now (g .entry)) (now (z .entry)) (now (digits .entry))) before (now (z .exit)) (now (digits .exit)) (v .before) (v .chosen) (now (sums .exit)) ⌝ }
+{
+    let n = h.n;
+    recurrence::choose(sums, z, &mut chosen, n, r, bits, h.p);
+    *sums = recurrence::column_sums(table, &chosen, n);
+    store_digits(digits, k, n, &chosen);
+    Vectors {
+        before: chosen,
+        chosen: before,
+    }
+}
+
+// Makes the steps with the products looked up in a table.
 fn run_by_columns(
     h: Header,
     k: usize,
@@ -202,14 +278,28 @@ fn run_by_columns(
 {
     let n = h.n;
     let r = job::radix(h.code);
+    let bits = job::inner_bits(h);
     let table = recurrence::products(g, n);
     let mut before = last_digits(digits, k, n);
     let mut chosen = [0i8; 16];
+    let mut sums = recurrence::column_sums(&table, &before, n);
     let mut j: usize = 0;
     while j < made {
-        let sums = recurrence::column_sums(&table, &before, n);
-        recurrence::choose(&sums, z, &mut chosen, n, r, h.f, h.p);
-        hand_on(digits, k + j, n, &mut before, &mut chosen);
+        let v = step_by_columns(
+            h,
+            r,
+            bits,
+            k + j,
+            g,
+            &table,
+            before,
+            chosen,
+            &mut sums,
+            z,
+            digits,
+        );
+        before = v.before;
+        chosen = v.chosen;
         j += 1;
     }
 }

@@ -25,7 +25,7 @@ use Rattle.job.specs.Header.{
   trace-header-checks,
 }
 use Rattle.job.specs.Kind.{Kind, polynomial, rational, system, unused, kind-of, is-unused, count-of}
-use Rattle.job.specs.Rules.{last-step, trace-steps, inner-unit}
+use Rattle.job.specs.Rules.{last-step, trace-steps, inner-bits, inner-unit}
 use Rattle.job.specs.declared.Header.{Header}
 
 pub record Limits (h : Header) : Type 0 where
@@ -166,6 +166,9 @@ module _ (h : Header) where
 
     pub unit-least : 16 ≤ unit h
     unit-least = pow-mono {i = 4} {j = h .f} (l .fraction-least)
+
+    pub inner-bits-most : inner-bits h ≤ 40
+    inner-bits-most = l .fraction-most
 
     pub inner-most : inner-unit h ≤ 2 ^ 40
     inner-most = unit-most

@@ -1,106 +1,95 @@
 -- The invariant: the arrays are the state's after j steps. The measure is what is left of the steps to be made.
-use mathlib.Core.Path.{_≡_, refl, _∙_}
+use mathlib.Core.Path.{_≡_, refl}
 use mathlib.Core.Bool.{true}
 use Prim.Native.Nat.{_-_, _≤_}
+use borrow.Author.Needs.{needs}
 use native.Mathlib.Omega.{arith}
-use lib.ListN.{length}
-use Rattle.job.specs.Header.{unit}
-use Rattle.recurrence.specs.Flat.{Ready}
-use Rattle.recurrence.specs.Sums.{Summed}
-use Rattle.recurrence.proofs.Ready.{rows-summable, choosable}
-use Rattle.recurrence.proofs.Stepped.{filled-summed, length-filled}
+use lib.IntN.{pos}
+use lib.ListN.{length, replicate}
+use Rattle.job.specs.Limits.{inner-bits-most}
+use Rattle.recurrence.proofs.Ready.{rows-summable}
 use Rattle.state.specs.Sound.{state-of}
-use Rattle.evaluator.proofs.Stepping.{Reached, last-small, reached-start, reached-vector, reached-ready, new-vector, reached-next}
+use Rattle.evaluator.proofs.Stepping.{Reached, last-small, rows-summed, first-ready, reached-start, reached-may, reached-next}
 use Rattle.evaluator.proofs.run_by_rows.Statement.{statement}
 use Rattle.evaluator.proofs.run_by_rows.Tie as tie
 
 abbrev Inv-loop : tie.InvT-loop
-Inv-loop h k made g z₀ digits₀ n r first past sums₀ before₀ chosen₀ j₀ z digits sums before chosen j =
-    (j ≤ made) × (length sums ≡ 16) × Reached (state-of true h k g z₀ digits₀) j digits z before chosen
+Inv-loop h k made g z₀ digits₀ n r bits first past before₀ chosen₀ sums₀ j₀ z digits before chosen sums j =
+    (j ≤ made) × (length sums ≡ 16) × Reached (state-of true h k g z₀ digits₀) j digits z before chosen sums
 
 abbrev μ-loop : tie.MeasureT-loop
-μ-loop h k made g z₀ digits₀ n r first past sums₀ before₀ chosen₀ j₀ z digits sums before chosen j = made - j
+μ-loop h k made g z₀ digits₀ n r bits first past before₀ chosen₀ sums₀ j₀ z digits before chosen sums j = made - j
 
 radix-requires : tie.Need-radix-requires Inv-loop μ-loop
 radix-requires c κs = c .pre .sound .limits .code-most
 
+inner-bits-requires : tie.Need-inner-bits-requires Inv-loop μ-loop
+inner-bits-requires c κs = search needs
+
 first-entries-requires : tie.Need-first-entries-requires Inv-loop μ-loop
-first-entries-requires c κs = let l = c .before .pre .sound .limits in (l .order-least, l .order-most)
+first-entries-requires c κs = let l = c .before .before .pre .sound .limits in (l .order-least, l .order-most)
 
 past-entries-requires : tie.Need-past-entries-requires Inv-loop μ-loop
-past-entries-requires c κs = c .before .before .pre .sound .limits .order-most
+past-entries-requires c κs = c .before .before .before .pre .sound .limits .order-most
 
 last-digits-requires : tie.Need-last-digits-requires Inv-loop μ-loop
-last-digits-requires c κs = let b = c .before .before .before .before .pre in (omega (arith, last-small b), b .sound .limits .order-most)
+last-digits-requires c κs = let b = c .before .before .before .before .before .pre in (omega (arith, last-small b), b .sound .limits .order-most)
 
-loop-holds : tie.Need-loop-holds Inv-loop μ-loop
-loop-holds c = (omega arith, refl, reached-start _ _ (c .last-digits .ensures))
+-- ---- the first sums
 
--- ---- a turn
-
-abbrev start : tie.At-loop Inv-loop μ-loop → tie.Start Inv-loop μ-loop
-start c = c .before .before .before .before .before .before
-
-ready : (c : tie.In-loop Inv-loop μ-loop) → let a = start (c .before) .args in let l = c .before .loop in
-    Ready (a .h .n) (c .before .before .before .before .before .before .radix .result) (a .h .p) (unit (a .h)) (a .g .now) (l .z) (l .before)
-ready c = let l = c .before in reached-ready (start l .pre) (c .loop-test .taken) (l .loop .inv .2) _ (l .before .before .before .before .before .radix .ensures)
-
-summed : (c : tie.After-row-sums Inv-loop μ-loop) → let l = c .before .before .before .before .before .before in let a = start l .args in
-    Summed (a .h .n) (a .g .now) (l .loop .before) (c .row-sums .last .1 .1 .1 .1 .1 .0)
-summed c = let l = c .before .before .before .before .before .before in filled-summed _ (l .loop .inv .1) (start l .pre .sound .limits .order-most) (c .row-sums .ensures)
-
-abbrev taken : tie.After-choose Inv-loop μ-loop → tie.In-loop Inv-loop μ-loop
-taken c = c .before .before .before .before .before .before .before .before .before
+abbrev start : tie.After-last-digits Inv-loop μ-loop → tie.Start Inv-loop μ-loop
+start d = d .before .before .before .before .before .before
 
 row-sums-requires : tie.Need-row-sums-requires Inv-loop μ-loop
 row-sums-requires c κs =
-    let i = c .before .before .before .before in
-    let l = i .before in
-    let m = start l .pre .sound .limits in
-    (m .order-most, rows-summable (m .fraction-most) (ready i), l .before .before .before .before .first-entries .ensures, l .before .before .before .past-entries .ensures)
+    let d = c .before .before .before .before in
+    let b = start d .pre .sound in
+    (b .limits .order-most, rows-summable (inner-bits-most _ (b .limits)) (first-ready b (d .last-digits .ensures)), d .before .before .before .first-entries .ensures, d .before .before .past-entries .ensures)
 
-choose-requires : tie.Need-choose-requires Inv-loop μ-loop
-choose-requires c κs =
-    let f = start (c .before .before .before .before .before .before .before .before .before) .pre .sound .limits .fraction-most in
-    (f, choosable f (ready (c .before .before .before .before .before .before .before .before)) (summed (c .before .before .before)))
+loop-holds : tie.Need-loop-holds Inv-loop μ-loop
+loop-holds c =
+    let d = c .before .before .before .before .before in
+    let q = rows-summed (replicate 16 (pos 0)) refl (start d .pre .sound .limits .order-most) (c .row-sums .ensures) in
+    (omega arith, q .0, reached-start (d .last-digits .ensures) (q .1))
 
-add-hand-on : tie.Need-add-hand-on Inv-loop μ-loop
-add-hand-on c = let i = taken (c .before) in omega (arith, last-small (start (i .before) .pre), i .loop-test .taken)
+-- ---- a turn
 
-hand-on-requires : tie.Need-hand-on-requires Inv-loop μ-loop
-hand-on-requires c κs =
-    let d = c .before .before .before in
-    let i = taken d in
-    let l = i .before in
-    let b = start l .pre in (
-      omega (arith, last-small b, i .loop-test .taken),
-      b .sound .limits .order-most,
-      reached-vector b (i .loop-test .taken) (l .loop .inv .2),
-      new-vector b (i .loop-test .taken) (l .loop .inv .2) _ (l .before .before .before .before .before .radix .ensures) (summed (d .before .before .before .before)) (d .choose .ensures .0) (d .choose .ensures .1) refl refl refl,
+abbrev begun : tie.In-loop Inv-loop μ-loop → tie.After-last-digits Inv-loop μ-loop
+begun i = i .before .before .before .before .before .before .before
+
+add-step-by-rows : tie.Need-add-step-by-rows Inv-loop μ-loop
+add-step-by-rows c = omega (arith, last-small (start (begun c) .pre), c .loop-test .taken)
+
+step-by-rows-requires : tie.Need-step-by-rows-requires Inv-loop μ-loop
+step-by-rows-requires c κs =
+    let i = c .before .before .before .before .before in
+    let d = begun i in
+    let v = i .before .loop .inv in (
+      reached-may (start d .pre) (i .loop-test .taken) (v .2) _ _ (d .before .before .before .before .before .radix .ensures) (d .before .before .before .before .inner-bits .ensures),
+      d .before .before .before .first-entries .ensures,
+      d .before .before .past-entries .ensures,
+      v .1,
     )
 
+abbrev taken : tie.After-step-by-rows Inv-loop μ-loop → tie.In-loop Inv-loop μ-loop
+taken c = c .before .before .before .before .before .before
+
 add-j : tie.Need-add-j Inv-loop μ-loop
-add-j c = let i = taken (c .before .before .before .before) in omega (arith, last-small (start (i .before) .pre), i .loop-test .taken)
+add-j c = let i = taken (c .before .before) in omega (arith, last-small (start (begun i) .pre), i .loop-test .taken)
 
 loop-less : tie.Need-loop-less Inv-loop μ-loop
 loop-less c = omega arith
 
 loop-again : tie.Need-loop-again Inv-loop μ-loop
 loop-again c =
-    let d = c .before .before .before .before in
-    let i = taken d in
-    let l = i .before in
-    let o = c .hand-on .ensures in (
-      omega arith,
-      rw (d .before .before .before .before .row-sums .ensures) (length-filled _ _ _ ∙ l .loop .inv .1),
-      reached-next (start l .pre) (i .loop-test .taken) (l .loop .inv .2) _ (l .before .before .before .before .before .radix .ensures) (summed (d .before .before .before .before))
-          (d .choose .ensures .0) (d .choose .ensures .1) (o .0) (o .1 .0) (o .1 .1),
-    )
+    let i = taken (c .before .before) in
+    let o = c .before .before .step-by-rows .ensures in
+    (omega arith, o .1, reached-next (start (begun i) .pre) (i .loop-test .taken) (i .before .loop .inv .2) (o .0))
 
 returns : tie.Need-returns Inv-loop μ-loop
 returns c =
     let l = c .before .loop in
-    let e : l .j ≡ start (c .before) .args .made = omega arith in
+    let e : l .j ≡ start (c .before .before .before .before .before .before .before) .args .made = omega arith in
     (rw e at (l .inv .2 .residuals), rw e at (l .inv .2 .digits))
 
 pub run-by-rows-spec : {M : Type 1} → statement M
@@ -110,14 +99,14 @@ run-by-rows-spec =
     Inv-loop
     μ-loop
     radix-requires
+    inner-bits-requires
     first-entries-requires
     past-entries-requires
     last-digits-requires
-    loop-holds
     row-sums-requires
-    choose-requires
-    add-hand-on
-    hand-on-requires
+    loop-holds
+    add-step-by-rows
+    step-by-rows-requires
     add-j
     loop-less
     loop-again
