@@ -1,18 +1,25 @@
 -- `near` and `curve` of demand 3 on case A: from the statement alone, how near two of four digits come to
 -- row 1's exact value, and what that value is.
 use mathlib.Core.Path.{_≡_, refl}
+use mathlib.Core.Bool.{true}
 use mathlib.Core.List.{List}
-use Prim.Native.Nat.{ℕ, _≤_}
+use Prim.Native.Nat.{ℕ, _<_, _≤_}
 use native.Mathlib.Omega.{arith}
 use lib.IntN.{ℤ, pos, natAbs, _-ℤ_, _*ℤ_}
+use lib.Signed.{_<ℤ_}
 use Rattle.integers.specs.Sum.{sum}
 use Rattle.bitfields.specs.Layout.{field, number, bits, run}
 use Rattle.bitfields.specs.Twos.{decode}
-use Rattle.curve.specs.Curve.{numerator-value, denominator-value}
+use Rattle.curve.specs.Curve.{numerator-value, denominator-value, has-value}
 use Rattle.accuracy.specs.Calls.{Call}
-use Rattle.accuracy.specs.Accuracy.{Accurate, ExactValues, Y}
+use Rattle.accuracy.specs.Accuracy.{Accurate, ExactValues, kind, Y}
 use Rattle.accuracy.proofs.ExampleA.{frame-A, calls-A, values-A, exact-A}
 use Rattle.accuracy.proofs.ExampleDigits.{steps-A, spelt-A}
+
+-- it is a curve
+pub polynomial-A : has-value (kind frame-A) ≡ true
+unfolding frame-A field number bits
+polynomial-A = refl
 
 module _ (holds : (calls : List Call) → Accurate frame-A calls) where
   -- row 1's value is 5/16, and the first two of its four digits spell a Y with |5 × 4 - 16 × Y| ≤ 16
@@ -28,4 +35,16 @@ module _ (holds : (calls : List Call) → Accurate frame-A calls) where
   -- row 1's exact value is 80/256, in every solution
   pub curve-A : (N : ℕ → ℤ) (D : ℕ) → ExactValues frame-A N D → pos 256 *ℤ N 0 ≡ pos 80 *ℤ pos D
   unfolding frame-A field number bits run decode numerator-value denominator-value sum
-  curve-A N D exact = holds calls-A .curve refl .value N D exact
+  curve-A N D exact = holds calls-A .curve polynomial-A .value N D exact
+
+  -- the denominator 256 is above 0
+  pub fraction-A : pos 0 <ℤ pos 256
+  unfolding frame-A field number bits run decode denominator-value sum
+  fraction-A = holds calls-A .curve polynomial-A .denominator-positive
+
+  -- and there is such a solution: one with a D above 0, in which 256 N is 80 D
+  abbrev found-A : ℕ
+  found-A = holds calls-A .curve polynomial-A .scale
+
+  pub some-A : (0 < found-A) × (pos 256 *ℤ holds calls-A .curve polynomial-A .solution 0 ≡ pos 80 *ℤ pos found-A)
+  some-A = (holds calls-A .curve polynomial-A .scale-positive, curve-A (holds calls-A .curve polynomial-A .solution) found-A (holds calls-A .curve polynomial-A .solved))

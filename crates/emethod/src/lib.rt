@@ -15,9 +15,11 @@
 // write_trace  puts the trace of a record into a lent buffer; refused by 2, 14, 3, 4, 5, 10, 11, 23
 // record_of    gives the record of a state; refused by 20, 24, with a record of zeros
 // evaluate     loads a frame, advances by each budget of a list and puts the readings into a lent list; refused by 1 to 9, 23
+// perform      loads a frame and makes a list of calls, advances and readings in any order; refused by 1 to 9
 // print_frame  puts the text of a frame, accepted or refused, into a lent buffer; refused by 23
 pub use accuracy::Evaluated;
 pub use accuracy::evaluate;
+pub use accuracy::perform;
 pub use evaluator::Advanced;
 pub use evaluator::Loaded;
 pub use evaluator::advance;
