@@ -1,5 +1,5 @@
--- `steps-made`, `digits` and `later-digits` of demand 3 on case A: from the statement alone, the steps made and
--- the digits held.
+-- `steps-made`, `digits` and `later-digits` of demand 3 on case A: from the statement alone, the steps made
+-- and the digits held.
 use mathlib.Core.Path.{_≡_, refl, ap}
 use mathlib.Core.List.{List, [], _∷_, map}
 use Prim.Native.Nat.{ℕ, _<_, _≤_}

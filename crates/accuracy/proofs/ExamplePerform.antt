@@ -26,7 +26,8 @@ use Rattle.accuracy.specs.Perform.{room-of, calls-of, place, parts-after
 use Rattle.accuracy.specs.declared.Evaluated.{Evaluated}
 use Rattle.accuracy.proofs.ExampleA.{frame-A, accepted-A}
 
--- ---- A: advances by 2, 0 and 9, and readings of no word, of three and of two; by 0 and of no word are refused
+-- ---- A: advances by 2, 0 and 9, and readings of no word, of three and of two; by 0 and of no word are
+-- refused
 
 words-A : List ℕ
 words-A = 0 ∷ 2 ∷ 1 ∷ 0 ∷ 1 ∷ 3 ∷ 0 ∷ 0 ∷ 0 ∷ 9 ∷ 7 ∷ 2 ∷ []

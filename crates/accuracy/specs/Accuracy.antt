@@ -21,8 +21,8 @@ use Rattle.state.specs.declared.State.{State}
 use Rattle.evaluator.specs.Evaluator.{loaded, least, job-digit, readings-refusal, readings-list}
 use Rattle.accuracy.specs.Calls.{Call, readings, run, budgets}
 
--- ---- a frame's job: the kind, the order n, the radix r, the largest digit p, the unit u = 2^f of its numbers, the unit of the residuals
--- inside its states, the last step
+-- ---- a frame's job: the kind, the order n, the radix r, the largest digit p, the unit u = 2^f of its
+-- numbers, the unit of the residuals inside its states, the last step
 
 abbrev pub kind : List ℕ → Kind
 kind frame = kind-of (header-of frame .kind)
@@ -93,7 +93,8 @@ pub record Accurate (frame : List ℕ) (calls : List Call) : Type 0 where
   -- for every k up to the steps made, every exact value and every row: (r - 1) |N r^k - D Y| ≤ p D
   pub near : (k : ℕ) → k ≤ after frame calls .k → (N : ℕ → ℤ) (D : ℕ) → 0 < D → ExactValues frame N D → (i : ℕ) → i < order frame →
       (base frame - 1) * natAbs (N i *ℤ pos (base frame ^ k) -ℤ pos D *ℤ Y frame calls k i) ≤ largest frame * D
-  -- row 1's exact value is that of the curve, for the kinds that are curves: a polynomial and a rational curve
+  -- row 1's exact value is that of the curve, for the kinds that are curves: a polynomial and a rational
+  -- curve
   pub curve : has-value (kind frame) ≡ true → ExactCurve frame
   -- a readings call on the way hands out each row's Y at the steps made by then, and nothing where it is refused
   pub handed-out : (before rest : List Call) (out : List ℤ) → calls ≡ before ++ (readings out ∷ rest) → readings-refusal (after frame before) (length out) ≡ 0 → (i : ℕ) → i < order frame →

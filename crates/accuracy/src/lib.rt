@@ -1,6 +1,7 @@
-// Demand 3 as a promise of running code. `evaluate` gives what a load, an advance for each budget of a list, and readings give, and
-// ensures the statement `Accurate` of specs/Accuracy.antt for just that list of calls, which it need not make one by one. `perform`
-// makes a list of calls itself, advances and readings in any order, and ensures the statement of it.
+// Demand 3 as a promise of running code. `evaluate` gives what a load, an advance for each budget of a list,
+// and readings give, and ensures the statement `Accurate` of specs/Accuracy.antt for just that list of calls,
+// which it need not make one by one. `perform` makes a list of calls itself, advances and readings in any
+// order, and ensures the statement of it.
 ghost use mathlib.Core.Path.{_≡_};
 ghost use Prim.Native.Nat.{_≤_};
 ghost use Rattle.evaluator.specs.Evaluator.{least};

@@ -1,5 +1,5 @@
--- The exact values of the table's cases, proved: a test of one case, which the check computes for every row of
--- the table, and a law that takes it to the statement.
+-- The exact values of the table's cases, proved: a test of one case, which the check computes for every row
+-- of the table, and a law that takes it to the statement.
 use mathlib.Core.Path.{_≡_, sym, ap, subst}
 use mathlib.Core.Bool.{Bool, true, false, cond, _&&_}
 use mathlib.Core.List.{List, [], _∷_, List·Memᴰ, List·Memᴰ·head, List·Memᴰ·tail}

@@ -1,5 +1,5 @@
--- What the definitions make of a frame: refused by a number and with a row, or accepted, and then what the calls
--- hand out with all steps made. The table of cases says it for document 01's frames.
+-- What the definitions make of a frame: refused by a number and with a row, or accepted, and then what the
+-- calls hand out with all steps made. The table of cases says it for document 01's frames.
 use mathlib.Core.Bool.{cond}
 use mathlib.Core.List.{List, [], _∷_}
 use Prim.Native.Nat.{ℕ, zero, suc}
@@ -13,8 +13,8 @@ use Rattle.state.specs.declared.State.{State}
 use Rattle.evaluator.specs.Evaluator.{loaded, advanced, state-reading}
 use Rattle.trace.specs.Trace.{record-fields, state-record}
 
--- the refusal, 0 where there is none, and the row given with it; the numbers as sent; after all steps the digits
--- row by row, the readings and the trace
+-- the refusal, 0 where there is none, and the row given with it; the numbers as sent; after all steps the
+-- digits row by row, the readings and the trace
 pub record Outcome : Type 0 where
   pub refusal : ℕ
   pub row : ℕ

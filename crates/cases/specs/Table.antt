@@ -1,6 +1,6 @@
 -- Document 01's cases as rows of one table, marked * or not, and that they hold of the definitions: one test,
--- which the check computes (claim C10). Their exact values are proved by `Values`, and the program of src/ runs
--- them and compares.
+-- which the check computes (claim C10). Their exact values are proved by `Values`, and the program of src/
+-- runs them and compares.
 use mathlib.Core.Path.{_≡_, refl}
 use mathlib.Core.List.{List, [], _∷_, map}
 use Prim.Native.Nat.{ℕ}
@@ -23,8 +23,8 @@ use Rattle.evaluator.specs.Evaluator.{loaded, advanced, advance-checks, steps, 
 use Rattle.trace.specs.Trace.{digit-list, digit-array, state-record}
 use Rattle.cases.specs.Outcome.{Outcome, refused-by, digit-rows, outcome-of}
 
--- A frame and what it comes to. Where it is accepted it has exact values too: row by row, whole numbers over one
--- denominator.
+-- A frame and what it comes to. Where it is accepted it has exact values too: row by row, whole numbers over
+-- one denominator.
 pub record Case : Type 0 where
   pub frame : List ℕ
   pub outcome : Outcome

@@ -1,5 +1,5 @@
--- The exact values of the table's accepted cases: that they solve all rows of the frame's system (document 01,
--- "One step"). Proved in proofs/Values.antt.
+-- The exact values of the table's accepted cases: that they solve all rows of the frame's system (document
+-- 01, "One step"). Proved in proofs/Values.antt.
 use mathlib.Core.Path.{_≡_}
 use mathlib.Core.List.{List·Memᴰ}
 use Prim.Native.Nat.{_<_}

@@ -11,8 +11,8 @@ use Rattle.cases.specs.Table.{Case, table}
 abbrev pub counted : List ℤ → List ℤ
 counted words = pos (length words) ∷ words
 
--- the frame's bytes, the refusal, the row, the numbers, how many rows of digits there are and each of them, the
--- readings, the trace's bytes
+-- the frame's bytes, the refusal, the row, the numbers, how many rows of digits there are and each of them,
+-- the readings, the trace's bytes
 abbrev pub case-words : Case → List ℤ
 case-words c =
     counted (map pos (c .frame))

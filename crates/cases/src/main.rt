@@ -1,8 +1,9 @@
-// Document 01's cases, run and held against the table of specs/Table.antt, which is proved of the definitions.
+// Document 01's cases, run and held against the table of specs/Table.antt, which is proved of the
+// definitions.
 //
-// For each row the calls are made, and what they answer and hand out is compared with the row's words, part by
-// part. A case that differs has a line with its number, from 1, and what differs first. The last line says how
-// many cases there are and how many differ.
+// For each row the calls are made, and what they answer and hand out is compared with the row's words, part
+// by part. A case that differs has a line with its number, from 1, and what differs first. The last line says
+// how many cases there are and how many differ.
 mod table;
 
 ghost use mathlib.Core.Path.{_≡_};
@@ -39,8 +40,8 @@ fn signed(n: usize) -> i64
     integers::to_signed(n as u64)
 }
 
-// A word as a natural number; 0 for one that is negative or past the bytes of the longest frame, as no size and
-// no byte is.
+// A word as a natural number; 0 for one that is negative or past the bytes of the longest frame, as no size
+// and no byte is.
 fn natural(z: i64) -> usize
     ensures { λ r. ⌜ r ≤ 1431 ⌝ }
 {
@@ -107,8 +108,8 @@ fn same_list(t: &[i64], place: usize, v: &[i64], n: usize) -> bool
     true
 }
 
-// Whether the refusal and the row at a place are those of the frame reader, and the list after them the numbers
-// that it hands out, none with a refusal.
+// Whether the refusal and the row at a place are those of the frame reader, and the list after them the
+// numbers that it hands out, none with a refusal.
 fn same_numbers(t: &[i64], place: usize, frame: &[u8]) -> bool
     requires { ⌜ place ≤ 12000 ⌝ }
 {

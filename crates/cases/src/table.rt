@@ -1,6 +1,6 @@
-// The table of cases as the words of specs/Words.antt. A row is the number of its words, the frame's bytes, the
-// refusal, the row, the numbers, how many rows of digits there are and each of them, the readings, and the
-// trace's bytes. Before each list stands how many words it has.
+// The table of cases as the words of specs/Words.antt. A row is the number of its words, the frame's bytes,
+// the refusal, the row, the numbers, how many rows of digits there are and each of them, the readings, and
+// the trace's bytes. Before each list stands how many words it has.
 ghost use mathlib.Core.Path.{_≡_};
 ghost use Rattle.cases.specs.Table.{rows-in-table};
 ghost use Rattle.cases.specs.Words.{table-words};

@@ -1,5 +1,5 @@
--- Arrays and lists that are written entry by entry: the digits of a step copied out and stored, and a list's first
--- words replaced. Cited by the proofs of `last_digits`, `store_digits` and `put_readings`.
+-- Arrays and lists that are written entry by entry: the digits of a step copied out and stored, and a list's
+-- first words replaced. Cited by the proofs of `last_digits`, `store_digits` and `put_readings`.
 use mathlib.Core.Path.{_≡_, refl, sym, ap, _∙_}
 use mathlib.Core.Bool.{Bool, true, false, cond}
 use mathlib.Core.List.{List, _++_}

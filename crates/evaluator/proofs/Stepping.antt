@@ -1,6 +1,6 @@
--- One step, and a loop over steps: what a step's calls ask and leave, the arrays after j steps of a state, and one
--- turn of the loop. Cited by the proofs of `step_by_rows`, `step_by_columns`, `run_by_rows`, `run_by_columns` and
--- `advance`.
+-- One step, and a loop over steps: what a step's calls ask and leave, the arrays after j steps of a state,
+-- and one turn of the loop. Cited by the proofs of `step_by_rows`, `step_by_columns`, `run_by_rows`,
+-- `run_by_columns` and `advance`.
 use mathlib.Core.Path.{_≡_, refl, sym, _∙_}
 use mathlib.Core.List.{List}
 use mathlib.Core.Logic.{_⊎_, inl, inr}
@@ -138,7 +138,8 @@ module _ {s : State} {r bits : ℕ} {before chosen sums : List ℤ} (a : MayStep
     pub new-signs : p ≡ 1 → Signs n new
     new-signs e = digits-signs few-bits next-ready e
 
-    -- and the step is made: `z` and `ds` have what `choose` and `store_digits` left, and `sums′` the rows' sums
+    -- and the step is made: `z` and `ds` have what `choose` and `store_digits` left, and `sums′` the rows'
+    -- sums
     pub stepped : {z ds sums′ : List ℤ} → z ≡ filled (residual-from r p u (s .z) sums) (s .z) n → ds ≡ digits-stored n (s .k) (s .digits) new
         → Summed n (s .g) new sums′ → Stepped s before z ds new before sums′
     unfolding one-step

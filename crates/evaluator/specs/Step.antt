@@ -1,6 +1,6 @@
--- One step as the code makes it: what it asks and what it leaves, in either way to sum the rows. Two vectors of
--- digits go in and come back, those of the step before and those being chosen, and change places. Cited by the
--- contracts of `step_by_rows` and `step_by_columns`.
+-- One step as the code makes it: what it asks and what it leaves, in either way to sum the rows. Two vectors
+-- of digits go in and come back, those of the step before and those being chosen, and change places. Cited by
+-- the contracts of `step_by_rows` and `step_by_columns`.
 use mathlib.Core.Path.{_≡_}
 use mathlib.Core.List.{List}
 use Prim.Native.Nat.{ℕ}
@@ -13,8 +13,8 @@ use Rattle.state.specs.declared.State.{State}
 use Rattle.evaluator.specs.Evaluator.{last-digits, chosen-digits, one-step}
 use Rattle.evaluator.specs.Steppable.{Steppable}
 
--- between two steps of s: the digits of the step before, a vector free for those to be chosen, and the rows' sums
--- with the step before
+-- between two steps of s: the digits of the step before, a vector free for those to be chosen, and the rows'
+-- sums with the step before
 pub record Between (s : State) (before chosen sums : List ℤ) : Type 0 where
   pub last : before ≡ last-digits s
   pub free : Vector (s .header .n) chosen
@@ -27,8 +27,8 @@ pub record MayStep (s : State) (r bits : ℕ) (before chosen sums : List ℤ) : 
   pub bits-are : bits ≡ inner-bits (s .header)
   pub between : Between s before chosen sums
 
--- what it leaves: the residuals z and the digits ds of the state a step further, the two vectors exchanged, and the
--- rows' sums with the digits just chosen
+-- what it leaves: the residuals z and the digits ds of the state a step further, the two vectors exchanged,
+-- and the rows' sums with the digits just chosen
 pub record Stepped (s : State) (before z ds before′ chosen′ sums′ : List ℤ) : Type 0 where
   pub residuals : z ≡ one-step s .z
   pub digits : ds ≡ one-step s .digits

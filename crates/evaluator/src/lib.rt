@@ -160,9 +160,10 @@ struct Vectors {
 }
 
 // The step after the k-th, with each row summed over the columns in which it has entries. Both vectors go in
-// and come back by value, and change places: the digits chosen are the step before of the next step. `sums` has
-// the rows' sums with the step before, and is left with those of the next step. They are made here, from the
-// vector just chosen: its copy waits for the single digits just written, and a sum from the copy would wait too.
+// and come back by value, and change places: the digits chosen are the step before of the next step. `sums`
+// has the rows' sums with the step before, and is left with those of the next step. They are made here, from
+// the vector just chosen: its copy waits for the single digits just written, and a sum from the copy would
+// wait too.
 fn step_by_rows<'a>(
     h: Header,
     r: usize,
@@ -235,8 +236,8 @@ fn run_by_rows(
     }
 }
 
-// The same step in radix 2 with the products looked up in a table, column by column. The table is that of g, which
-// the contract alone names.
+// The same step in radix 2 with the products looked up in a table, column by column. The table is that of g,
+// which the contract alone names.
 fn step_by_columns<'a>(
     h: Header,
     r: usize,

@@ -37,7 +37,8 @@ frame-code code = leb code 3
 abbrev pub trace-code : ℕ → Bool
 trace-code code = leb code 3
 
--- 2: a kind past its table, or a radix code that is not known to the call. In a frame the fields have two bits, and only kind 3 is.
+-- 2: a kind past its table, or a radix code that is not known to the call. In a frame the fields have two
+-- bits, and only kind 3 is.
 abbrev pub unknown-kind : Bool → Header → Bool
 unknown-kind known h = is-unused (kind-of (h .kind)) || not known
 

@@ -1,5 +1,6 @@
--- The kinds of a job (document 01, "Job frame"). What differs from kind to kind is said by clauses over them: here how many numbers a kind has, in
--- `System` its matrix and its right-hand sides, and in the crate `curve` the exact value of its first row.
+-- The kinds of a job (document 01, "Job frame"). What differs from kind to kind is said by clauses over them:
+-- here how many numbers a kind has, in `System` its matrix and its right-hand sides, and in the crate `curve`
+-- the exact value of its first row.
 use mathlib.Core.Bool.{Bool, true, false}
 use Prim.Native.Nat.{ℕ, zero, suc, _+_, _*_}
 
@@ -23,7 +24,8 @@ is-unused rational = false
 is-unused system = false
 is-unused unused = true
 
--- how many numbers a kind has at order n: x and p_0 to p_(n-1); for a rational curve also q_1 to q_(n-1); for a system n rows of n + 1
+-- how many numbers a kind has at order n: x and p_0 to p_(n-1); for a rational curve also q_1 to q_(n-1); for
+-- a system n rows of n + 1
 abbrev pub count-of : Kind → ℕ → ℕ
 count-of polynomial n = n + 1
 count-of rational n = 2 * n

@@ -11,8 +11,8 @@ use Rattle.job.specs.Rules.{inner-unit, bound-over, bound-under}
 use Rattle.job.specs.declared.Header.{Header}
 use Rattle.job.specs.declared.Verdict.{Verdict}
 
--- Document 01's rule of light rows, 2 × r × p × S at most 2^f × (2p - (r - 1)), where 2 and 1 are the residual bound's: what a weight S is
--- multiplied by, and what that may come to
+-- Document 01's rule of light rows, 2 × r × p × S at most 2^f × (2p - (r - 1)), where 2 and 1 are the
+-- residual bound's: what a weight S is multiplied by, and what that may come to
 abbrev pub weight-factor : Header → ℕ
 weight-factor h = bound-under * radix (h .code) * h .p
 
@@ -47,7 +47,8 @@ first-row-from i (suc k) t = cond (t i) (suc i) (first-row-from (suc i) k t)
 abbrev pub first-row : ℕ → (ℕ → Bool) → ℕ
 first-row n t = first-row-from 0 n t
 
--- the first row that is too heavy, the first whose right-hand side is too large, and the first whose residual is; 0 where none is
+-- the first row that is too heavy, the first whose right-hand side is too large, and the first whose residual
+-- is; 0 where none is
 abbrev pub heavy-row : Header → (ℕ → ℕ → ℤ) → ℕ
 heavy-row h G = first-row (h .n) (λ i. not (light-enough h (weight (h .n) (G i))))
 

@@ -1,4 +1,5 @@
--- The rules that a job is held to, each said once: every condition, promise and theorem on steps, units and residuals cites these.
+-- The rules that a job is held to, each said once: every condition, promise and theorem on steps, units and
+-- residuals cites these.
 use Prim.Native.Nat.{ℕ, _^_}
 use Rattle.job.specs.declared.Header.{Header}
 

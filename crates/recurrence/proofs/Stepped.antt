@@ -69,15 +69,6 @@ vector-zeros n = record { size = refl; past = λ i l. at-zeros i }
 pub vector-filled : (f : ℕ → ℤ) {n : ℕ} {v : List ℤ} → Vector n v → Vector n (filled f v n)
 vector-filled f {n} {v} h = record { size = length-filled f v n ∙ h .size; past = λ i l. filled-past f v n i l ∙ h .past i l }
 
--- a vector filled with another's rows is that other one
-pub filled-by : {n : ℕ} {a b : List ℤ} → Vector n a → Vector n b → filled (at b) a n ≡ b
-filled-by {n} {a} {b} h k =
-    ext-getD (pos 0) (filled (at b) a n) b (length-filled (at b) a n ∙ h .size ∙ sym (k .size)) (λ i l. same i (omega (arith, l, length-filled (at b) a n)) (le-or-lt n i))
-  where
-    same : (i : ℕ) → i < length a → (n ≤ i) ⊎ (i < n) → at (filled (at b) a n) i ≡ at b i
-    same i l (inl m) = filled-past (at b) a n i m ∙ h .past i m ∙ sym (k .past i m)
-    same i l (inr m) = filled-row (at b) a n i m l
-
 -- a vector of n rows filled is the vector of zeros filled
 pub filled-vector : (f : ℕ → ℤ) {n : ℕ} {v : List ℤ} → Vector n v → filled f v n ≡ filled f (replicate 16 (pos 0)) n
 filled-vector f {n} {v} h =
@@ -116,10 +107,6 @@ module _ (n r p u : ℕ) (g z d : List ℤ) where
   pub stepped-residual-past : (i : ℕ) → n ≤ i → at (stepped-residuals n r p u g z d) i ≡ at z i
   unfolding stepped-residuals
   stepped-residual-past i h = filled-past (next-residual n r u (select p u) (entry g) (at z) (at d)) z n i h
-
-  pub stepped-vector : Vector n (stepped-digits n r p u g z d)
-  unfolding stepped-digits
-  stepped-vector = vector-filled (next-digit n r (select p u) (entry g) (at z) (at d)) (vector-zeros n)
 
 -- the rows filled with their sums
 pub filled-summed : {n : ℕ} {g d s : List ℤ} (v : List ℤ) → length v ≡ 16 → n ≤ 16 → s ≡ filled (row-dot n g d) v n → Summed n g d s

@@ -58,7 +58,8 @@ pub record Choosable (n r p u : ℕ) (z s : List ℤ) : Type 0 where
   pub sums : (i : ℕ) → i < n → natAbs (at s i) ≤ 2 ^ 48
   pub bound : (i : ℕ) → i < n → bound-under * natAbs (shifted-by r z s i) ≤ (bound-under * p + bound-over) * u
 
--- document 01's limits on a job and on its numbers: light rows, residuals within their bound and digits within p
+-- document 01's limits on a job and on its numbers: light rows, residuals within their bound and digits
+-- within p
 pub record Ready (n r p u : ℕ) (g z d : List ℤ) : Type 0 where
   pub order : n ≤ 16
   pub radix : (2 ≤ r) × (r ≤ 16)

@@ -40,7 +40,8 @@ unfoldable pub reading : ℕ → (ℕ → ℕ → ℤ) → ℕ → ℕ → ℤ
 reading r d zero i = pos 0
 reading r d (suc k) i = pos r *ℤ reading r d k i +ℤ d (suc k) i
 
--- Document 01's words: the sum, over the steps j from 1 to k, of the digit of step j times r^(k-j). `reading-sum` of `Theorems` has that it is the reading.
+-- Document 01's words: the sum, over the steps j from 1 to k, of the digit of step j times r^(k-j).
+-- `reading-sum` of `Theorems` has that it is the reading.
 unfoldable pub digit-sum : ℕ → (ℕ → ℕ → ℤ) → ℕ → ℕ → ℤ
 digit-sum r d k i = sum k (λ j. d (suc j) i *ℤ pos (r ^ (k - suc j)))
 

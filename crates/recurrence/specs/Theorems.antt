@@ -128,7 +128,8 @@ select-distance {n} {r} {p} {u} {G} {B} hr hu light small sol k i l =
     distance hr (omega arith) (omega arith) hu light (steps-run n r u (select p u) G B) sol k
     (held B (select-selects p u hu) light small k) i l
 
--- Light rows are short: with a residual bound of 1/2 or more and digits below r, a row weighs at most a quarter of a unit.
+-- Light rows are short: with a residual bound of 1/2 or more and digits below r, a row weighs at most a
+-- quarter of a unit.
 pub short : (r p u c e S : ℕ) → 2 ≤ r → 1 ≤ p → p ≤ r - 1 → 0 < e → e ≤ 2 * c → Light r p u c e S → 4 * S ≤ u
 short r p u c e S hr hp h he hc l =
     let f : c * u * suc p ≤ c * u * r = mul-le-mul-left (c * u) (omega arith) in

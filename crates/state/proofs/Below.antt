@@ -1,5 +1,5 @@
--- Of two states that agree below the order refusals 20 and 24 come out the same. And the laws of lists that the
--- calls on such states need. Cited by `PastOrder` of the evaluator and of traces.
+-- Of two states that agree below the order refusals 20 and 24 come out the same. And the laws of lists that
+-- the calls on such states need. Cited by `PastOrder` of the evaluator and of traces.
 use mathlib.Core.Path.{_≡_, refl, sym, _∙_}
 use mathlib.Core.Bool.{Bool, true, false, cond}
 use mathlib.Core.List.{List, [], _∷_}

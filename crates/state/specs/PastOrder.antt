@@ -1,5 +1,6 @@
 -- Two states that agree below the order: what a call may look at is the same in both, and what stands past
--- the order may be anything. Cited by what is said of every call on such states, in the crates evaluator and trace.
+-- the order may be anything. Cited by what is said of every call on such states, in the crates evaluator and
+-- trace.
 use mathlib.Core.Path.{_≡_}
 use Prim.Native.Nat.{ℕ, _<_}
 use Rattle.integers.specs.Flat.{at, entry}

@@ -96,8 +96,8 @@ fn bad_digit(d: &[i8; 960], n: usize, p: usize, k: usize) -> bool
     beyond(d, n, p, 0, k) | beyond(d, n, 0, k, 60 - k)
 }
 
-// Refusal 24: a header field out of its limits, k above the last step, a heavy row, a residual above its bound, a digit beyond p, or a
-// digit other than 0 after the k-th step.
+// Refusal 24: a header field out of its limits, k above the last step, a heavy row, a residual above its
+// bound, a digit beyond p, or a digit other than 0 after the k-th step.
 fn breaks_limit<'a>(
     h: Header,
     k: usize,

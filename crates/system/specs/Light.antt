@@ -1,5 +1,6 @@
--- Light enough, small enough (document 01, "The system") and a residual within its bound as one comparison each: with the largest weight, half a
--- unit, and the largest residual. Cited by the proofs of `largest_light` and `residual_most`, by `Verdict`, and by callers that need a bound.
+-- Light enough, small enough (document 01, "The system") and a residual within its bound as one comparison
+-- each: with the largest weight, half a unit, and the largest residual. Cited by the proofs of
+-- `largest_light` and `residual_most`, by `Verdict`, and by callers that need a bound.
 use mathlib.Core.Path.{_≡_, sym, ap, _∙_}
 use mathlib.Core.Bool.{not, Bool·not-not}
 use mathlib.Core.Logic.{_⊎_, inl, inr}
@@ -72,9 +73,6 @@ not-leb a b = ap not (leb-is a b) ∙ Bool·not-not (ltb b a)
 -- light enough is at most the largest weight that is
 pub light-is : {h : Header} → Limits h → (S : ℕ) → light-enough h S ≡ leb S (largest-light h)
 light-is {h} l S = leb-quotient (weight-factor h) S (weight-room h) (divisor-least (radix (h .code)) (h .p) (unit h) (sizes l))
-
-pub largest-light-most : {h : Header} → Limits h → largest-light h ≤ 2 ^ 40
-largest-light-most {h} l = quotient-most (radix (h .code)) (h .p) (unit h) (sizes l)
 
 -- small enough is at most half a unit
 pub small-is : (h : Header) (B : ℤ) → small-enough h B ≡ leb (natAbs B) (unit h / 2)

@@ -1,5 +1,6 @@
--- Rows that are too heavy and numbers of a vector that are too large, in arrays: the tests that the contracts of `first_heavy` and `first_large`
--- cite. And the laws that their proofs cite: weighing by the room that is left below a limit, which no i64 breaks.
+-- Rows that are too heavy and numbers of a vector that are too large, in arrays: the tests that the contracts
+-- of `first_heavy` and `first_large` cite. And the laws that their proofs cite: weighing by the room that is
+-- left below a limit, which no i64 breaks.
 use mathlib.Core.Path.{_≡_, refl, sym, _∙_}
 use mathlib.Core.Bool.{Bool, true, false}
 use mathlib.Core.List.{List}

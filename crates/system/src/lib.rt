@@ -1,6 +1,7 @@
-// Setting up the system of a job from its numbers, and weighing it (document 01, "The system"; refusals 8 and 9). A matrix is an array
-// of 256 with row i, column j at 16 * i + j, a vector an array of 16. Rows and columns count from 0 here, and only row numbers that are
-// given count from 1. Past the order n an array holds zeros.
+// Setting up the system of a job from its numbers, and weighing it (document 01, "The system"; refusals 8 and
+// 9). A matrix is an array of 256 with row i, column j at 16 * i + j, a vector an array of 16. Rows and
+// columns count from 0 here, and only row numbers that are given count from 1. Past the order n an array
+// holds zeros.
 ghost use mathlib.Core.Path.{_≡_};
 ghost use mathlib.Core.Bool.{cond};
 ghost use Prim.Native.Nat.{_+_, _*_, _/_, _<_, _≤_, _^_};
@@ -150,7 +151,8 @@ fn half_unit(f: usize) -> i64
     integers::to_signed(unit(f) / 2)
 }
 
-// The residual bound of document 01, 1/2: residuals stay within OVER / UNDER, and the rule of light rows follows from it.
+// The residual bound of document 01, 1/2: residuals stay within OVER / UNDER, and the rule of light rows
+// follows from it.
 const OVER: u64 = 1;
 
 const UNDER: u64 = 2;
@@ -228,7 +230,8 @@ fn first_large(z: &[i64; 16], n: usize, most: i64) -> usize
     0
 }
 
-// The number of the first row that is too heavy, of any matrix; 0 where none is. Refusal 8 of a frame and its limit under 24 of a state.
+// The number of the first row that is too heavy, of any matrix; 0 where none is. Refusal 8 of a frame and its
+// limit under 24 of a state.
 pub fn heavy_row(g: &[i64; 256], h: Header) -> usize
     requires { ⌜ Limits h ⌝ }
     ensures { λ r. ⌜ r ≡ heavy-row h (entry (now (g .entry))) ⌝ }
@@ -252,8 +255,8 @@ pub fn large_residual(z: &[i64; 16], h: Header) -> usize
     first_large(z, h.n, residual_most(h))
 }
 
-// Refusals 8 and 9, with the row that is given, from the first heavy row and the first large right-hand side: all weights come before any
-// right-hand side.
+// Refusals 8 and 9, with the row that is given, from the first heavy row and the first large right-hand side:
+// all weights come before any right-hand side.
 fn verdict_of(heavy: usize, large: usize) -> Verdict
     ensures { λ r. ⌜ r ≡ verdict-of heavy large ⌝ }
 {
