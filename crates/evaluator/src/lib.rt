@@ -210,13 +210,17 @@ fn run_by_rows(
     let bits = job::inner_bits(h);
     let first = recurrence::first_entries(g, n);
     let past = recurrence::past_entries(g, n);
-    let mut before = last_digits(digits, k, n);
-    let mut chosen = [0i8; 16];
+    let mut v = Vectors {
+        before: last_digits(digits, k, n),
+        chosen: [0; 16],
+    };
     let mut sums = [0i64; 16];
-    recurrence::row_sums(g, &first, &past, &before, n, &mut sums);
+    recurrence::row_sums(g, &first, &past, &v.before, n, &mut sums);
     let mut j: usize = 0;
     while j < made {
-        let v = step_by_rows(
+        let before = v.before;
+        let chosen = v.chosen;
+        v = step_by_rows(
             h,
             r,
             bits,
@@ -230,8 +234,6 @@ fn run_by_rows(
             z,
             digits,
         );
-        before = v.before;
-        chosen = v.chosen;
         j += 1;
     }
 }
@@ -281,12 +283,16 @@ fn run_by_columns(
     let r = job::radix(h.code);
     let bits = job::inner_bits(h);
     let table = recurrence::products(g, n);
-    let mut before = last_digits(digits, k, n);
-    let mut chosen = [0i8; 16];
-    let mut sums = recurrence::column_sums(&table, &before, n);
+    let mut v = Vectors {
+        before: last_digits(digits, k, n),
+        chosen: [0; 16],
+    };
+    let mut sums = recurrence::column_sums(&table, &v.before, n);
     let mut j: usize = 0;
     while j < made {
-        let v = step_by_columns(
+        let before = v.before;
+        let chosen = v.chosen;
+        v = step_by_columns(
             h,
             r,
             bits,
@@ -299,8 +305,6 @@ fn run_by_columns(
             z,
             digits,
         );
-        before = v.before;
-        chosen = v.chosen;
         j += 1;
     }
 }

@@ -14,11 +14,11 @@ use Rattle.evaluator.proofs.run_by_columns.Statement.{statement}
 use Rattle.evaluator.proofs.run_by_columns.Tie as tie
 
 abbrev Inv-loop : tie.InvT-loop
-Inv-loop h k made g z₀ digits₀ n r bits table before₀ chosen₀ sums₀ j₀ z digits before chosen sums j =
-    (j ≤ made) × Reached (state-of true h k g z₀ digits₀) j digits z before chosen sums
+Inv-loop h k made g z₀ digits₀ n r bits table v₀ sums₀ j₀ z digits v sums j =
+    (j ≤ made) × Reached (state-of true h k g z₀ digits₀) j digits z (v .before) (v .chosen) sums
 
 abbrev μ-loop : tie.MeasureT-loop
-μ-loop h k made g z₀ digits₀ n r bits table before₀ chosen₀ sums₀ j₀ z digits before chosen sums j = made - j
+μ-loop h k made g z₀ digits₀ n r bits table v₀ sums₀ j₀ z digits v sums j = made - j
 
 radix-requires : tie.Need-radix-requires Inv-loop μ-loop
 radix-requires c κs = c .pre .0 .sound .limits .code-most
@@ -39,27 +39,27 @@ start d = d .before .before .before .before .before
 
 column-sums-requires : tie.Need-column-sums-requires Inv-loop μ-loop
 column-sums-requires c κs =
-    let d = c .before .before in
+    let d = c .before .before .before in
     let p = start d .pre in
     let b = p .0 .sound in
     (b .limits .order-most, d .before .before .products .ensures .table, digits-signs (inner-bits-most _ (b .limits)) (first-ready b (d .last-digits .ensures)) (p .1))
 
 loop-holds : tie.Need-loop-holds Inv-loop μ-loop
 loop-holds c =
-    let d = c .before .before .before in
+    let d = c .before .before .before .before in
     (omega arith, reached-start (d .last-digits .ensures) (table-summed _ _ (start d .pre .0 .sound .limits .order-most) (d .before .before .products .ensures) (c .column-sums .ensures)))
 
 -- ---- a turn
 
 abbrev begun : tie.In-loop Inv-loop μ-loop → tie.After-last-digits Inv-loop μ-loop
-begun i = i .before .before .before .before .before
+begun i = i .before .before .before .before .before .before
 
 add-step-by-columns : tie.Need-add-step-by-columns Inv-loop μ-loop
-add-step-by-columns c = omega (arith, last-small (start (begun c) .pre .0), c .loop-test .taken)
+add-step-by-columns c = let i = c .before .before in omega (arith, last-small (start (begun i) .pre .0), i .loop-test .taken)
 
 step-by-columns-requires : tie.Need-step-by-columns-requires Inv-loop μ-loop
 step-by-columns-requires c κs =
-    let i = c .before .before .before .before in
+    let i = c .before .before .before .before .before .before in
     let d = begun i in
     let p = start d .pre in (
       reached-may (p .0) (i .loop-test .taken) (i .before .loop .inv .1) _ _ (d .before .before .before .before .radix .ensures) (d .before .before .before .inner-bits .ensures),
@@ -68,23 +68,23 @@ step-by-columns-requires c κs =
     )
 
 abbrev taken : tie.After-step-by-columns Inv-loop μ-loop → tie.In-loop Inv-loop μ-loop
-taken c = c .before .before .before .before .before
+taken c = c .before .before .before .before .before .before .before
 
 add-j : tie.Need-add-j Inv-loop μ-loop
-add-j c = let i = taken (c .before .before) in omega (arith, last-small (start (begun i) .pre .0), i .loop-test .taken)
+add-j c = let i = taken c in omega (arith, last-small (start (begun i) .pre .0), i .loop-test .taken)
 
 loop-less : tie.Need-loop-less Inv-loop μ-loop
 loop-less c = omega arith
 
 loop-again : tie.Need-loop-again Inv-loop μ-loop
 loop-again c =
-    let i = taken (c .before .before) in
-    (omega arith, reached-next (start (begun i) .pre .0) (i .loop-test .taken) (i .before .loop .inv .1) (c .before .before .step-by-columns .ensures))
+    let i = taken c in
+    (omega arith, reached-next (start (begun i) .pre .0) (i .loop-test .taken) (i .before .loop .inv .1) (c .step-by-columns .ensures))
 
 returns : tie.Need-returns Inv-loop μ-loop
 returns c =
     let l = c .before .loop in
-    let e : l .j ≡ start (c .before .before .before .before .before) .args .made = omega arith in
+    let e : l .j ≡ start (c .before .before .before .before .before .before) .args .made = omega arith in
     (rw e at (l .inv .1 .residuals), rw e at (l .inv .1 .digits))
 
 pub run-by-columns-spec : {M : Type 1} → statement M

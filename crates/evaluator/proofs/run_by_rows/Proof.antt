@@ -14,11 +14,11 @@ use Rattle.evaluator.proofs.run_by_rows.Statement.{statement}
 use Rattle.evaluator.proofs.run_by_rows.Tie as tie
 
 abbrev Inv-loop : tie.InvT-loop
-Inv-loop h k made g z₀ digits₀ n r bits first past before₀ chosen₀ sums₀ j₀ z digits before chosen sums j =
-    (j ≤ made) × (length sums ≡ 16) × Reached (state-of true h k g z₀ digits₀) j digits z before chosen sums
+Inv-loop h k made g z₀ digits₀ n r bits first past v₀ sums₀ j₀ z digits v sums j =
+    (j ≤ made) × (length sums ≡ 16) × Reached (state-of true h k g z₀ digits₀) j digits z (v .before) (v .chosen) sums
 
 abbrev μ-loop : tie.MeasureT-loop
-μ-loop h k made g z₀ digits₀ n r bits first past before₀ chosen₀ sums₀ j₀ z digits before chosen sums j = made - j
+μ-loop h k made g z₀ digits₀ n r bits first past v₀ sums₀ j₀ z digits v sums j = made - j
 
 radix-requires : tie.Need-radix-requires Inv-loop μ-loop
 radix-requires c κs = c .pre .sound .limits .code-most
@@ -42,27 +42,28 @@ start d = d .before .before .before .before .before .before
 
 row-sums-requires : tie.Need-row-sums-requires Inv-loop μ-loop
 row-sums-requires c κs =
-    let d = c .before .before .before .before in
+    let d = c .before .before .before .before .before in
     let b = start d .pre .sound in
     (b .limits .order-most, rows-summable (inner-bits-most _ (b .limits)) (first-ready b (d .last-digits .ensures)), d .before .before .before .first-entries .ensures, d .before .before .past-entries .ensures)
 
 loop-holds : tie.Need-loop-holds Inv-loop μ-loop
 loop-holds c =
-    let d = c .before .before .before .before .before in
+    let d = c .before .before .before .before .before .before in
+    let j : 0 ≤ start d .args .made = omega arith in
     let q = rows-summed (replicate 16 (pos 0)) refl (start d .pre .sound .limits .order-most) (c .row-sums .ensures) in
-    (omega arith, q .0, reached-start (d .last-digits .ensures) (q .1))
+    (j, q .0, reached-start (d .last-digits .ensures) (q .1))
 
 -- ---- a turn
 
 abbrev begun : tie.In-loop Inv-loop μ-loop → tie.After-last-digits Inv-loop μ-loop
-begun i = i .before .before .before .before .before .before .before
+begun i = i .before .before .before .before .before .before .before .before
 
 add-step-by-rows : tie.Need-add-step-by-rows Inv-loop μ-loop
-add-step-by-rows c = omega (arith, last-small (start (begun c) .pre), c .loop-test .taken)
+add-step-by-rows c = let i = c .before .before in omega (arith, last-small (start (begun i) .pre), i .loop-test .taken)
 
 step-by-rows-requires : tie.Need-step-by-rows-requires Inv-loop μ-loop
 step-by-rows-requires c κs =
-    let i = c .before .before .before .before .before in
+    let i = c .before .before .before .before .before .before .before in
     let d = begun i in
     let v = i .before .loop .inv in (
       reached-may (start d .pre) (i .loop-test .taken) (v .2) _ _ (d .before .before .before .before .before .radix .ensures) (d .before .before .before .before .inner-bits .ensures),
@@ -72,24 +73,24 @@ step-by-rows-requires c κs =
     )
 
 abbrev taken : tie.After-step-by-rows Inv-loop μ-loop → tie.In-loop Inv-loop μ-loop
-taken c = c .before .before .before .before .before .before
+taken c = c .before .before .before .before .before .before .before .before
 
 add-j : tie.Need-add-j Inv-loop μ-loop
-add-j c = let i = taken (c .before .before) in omega (arith, last-small (start (begun i) .pre), i .loop-test .taken)
+add-j c = let i = taken c in omega (arith, last-small (start (begun i) .pre), i .loop-test .taken)
 
 loop-less : tie.Need-loop-less Inv-loop μ-loop
 loop-less c = omega arith
 
 loop-again : tie.Need-loop-again Inv-loop μ-loop
 loop-again c =
-    let i = taken (c .before .before) in
-    let o = c .before .before .step-by-rows .ensures in
+    let i = taken c in
+    let o = c .step-by-rows .ensures in
     (omega arith, o .1, reached-next (start (begun i) .pre) (i .loop-test .taken) (i .before .loop .inv .2) (o .0))
 
 returns : tie.Need-returns Inv-loop μ-loop
 returns c =
     let l = c .before .loop in
-    let e : l .j ≡ start (c .before .before .before .before .before .before .before) .args .made = omega arith in
+    let e : l .j ≡ start (c .before .before .before .before .before .before .before .before) .args .made = omega arith in
     (rw e at (l .inv .2 .residuals), rw e at (l .inv .2 .digits))
 
 pub run-by-rows-spec : {M : Type 1} → statement M
