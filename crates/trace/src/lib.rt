@@ -152,9 +152,10 @@ fn size_refusal(b: &[u8], h: Header, k: usize) -> usize
     requires { ⌜ Limits h × (k < 64) ⌝ }
     ensures { λ r. ⌜ r ≡ first-refusal (size-checks h k (part-wrong-length h k (now (b .entry))) (part-fill-bit-set h k (now (b .entry)))) ⌝ }
 {
+    let most = job::trace_steps(h);
     let bits = 6 + 5 * (h.n * k);
     let size = (bits + 7) / 8;
-    if job::trace_steps(h) < k {
+    if most < k {
         return 10; // more steps than a trace of the job may hold
     }
     if b.len() != size {

@@ -7,29 +7,29 @@ use Rattle.trace.proofs.Reading.{digits-few, size-fill, size-length, si
 use Rattle.trace.proofs.size_refusal.Statement.{statement}
 use Rattle.trace.proofs.size_refusal.Tie as tie
 
-mul-bits : tie.Need-mul-bits
-mul-bits c = omega (arith, digits-few (c .before .before .pre .0) (c .before .before .pre .1))
-
-mul-bits-2 : tie.Need-mul-bits-2
-mul-bits-2 c = omega (arith, digits-few (c .before .before .pre .0) (c .before .before .pre .1))
-
-add-bits : tie.Need-add-bits
-add-bits c = omega (arith, digits-few (c .before .before .pre .0) (c .before .before .pre .1))
-
-add-size : tie.Need-add-size
-add-size c = omega (arith, digits-few (c .before .before .pre .0) (c .before .before .pre .1))
-
 trace-steps-requires : tie.Need-trace-steps-requires
 trace-steps-requires c κs = search needs
 
+mul-bits : tie.Need-mul-bits
+mul-bits c = omega (arith, digits-few (c .before .before .before .pre .0) (c .before .before .before .pre .1))
+
+mul-bits-2 : tie.Need-mul-bits-2
+mul-bits-2 c = omega (arith, digits-few (c .before .before .before .pre .0) (c .before .before .before .pre .1))
+
+add-bits : tie.Need-add-bits
+add-bits c = omega (arith, digits-few (c .before .before .before .pre .0) (c .before .before .before .pre .1))
+
+add-size : tie.Need-add-size
+add-size c = omega (arith, digits-few (c .before .before .before .pre .0) (c .before .before .before .pre .1))
+
 -- the steps are not too many, once that is looked at
 few : (c : tie.Else1) → let a = c .before .before .before .before .args in a .k ≤ trace-steps (a .h)
-few c = omega (arith, c .before .trace-steps .ensures, c .if1 .left)
+few c = omega (arith, c .before .before .trace-steps .ensures, c .if1 .left)
 
 returns : tie.Need-returns
 returns c =
     let a = c .before .before .before .before .args in
-    size-steps (a .h) (a .k) (a .b .now) (omega (arith, c .before .trace-steps .ensures, c .if1 .taken))
+    size-steps (a .h) (a .k) (a .b .now) (omega (arith, c .before .before .trace-steps .ensures, c .if1 .taken))
 
 returns-2 : tie.Need-returns-2
 returns-2 c =
@@ -58,11 +58,11 @@ pub size-refusal-spec : {M : Type 1} → statement M
 size-refusal-spec =
     tie.close
     (tie.spec
+    trace-steps-requires
     mul-bits
     mul-bits-2
     add-bits
     add-size
-    trace-steps-requires
     returns
     returns-2
     fill-is-zero-requires
