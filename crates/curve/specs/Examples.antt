@@ -5,6 +5,7 @@ use mathlib.Core.List.{List, [], _∷_}
 use Prim.Native.Nat.{ℕ, zero, suc, _*_, _<_, _≤_}
 use native.Mathlib.Omega.{arith}
 use lib.IntN.{ℤ, pos, negℤ, _+ℤ_, _*ℤ_}
+use lib.Signed.{_<ℤ_}
 use Rattle.integers.specs.Normal.{solve, polys}
 use Rattle.integers.specs.Order.{zarith}
 use Rattle.integers.specs.Power.{_^ℤ_}
@@ -107,6 +108,11 @@ pub case-A : CurveValue 2 16 (curve-entry (argument numbers-A) no-denominator) (
 case-A =
     other-terms (pos 5) (pos 16) (omega zarith) (rw (numerator-A, denominator-A))
     (curve-value 16 (argument numbers-A) (numerator numbers-A) no-denominator 2 (omega arith) (omega arith) short-A)
+
+-- every part of what is said of A is used: 16 is above 0, and there is a solution with D above 0, in which 16 N is 5 D
+used-A : (pos 0 <ℤ pos 16) × (0 < case-A .scale) × (pos 16 *ℤ case-A .solution 0 ≡ pos 5 *ℤ pos (case-A .scale))
+used-A =
+    (case-A .denominator-positive, omega (arith, case-A .scale-positive), case-A .value (case-A .solution) (case-A .scale) (case-A .solved))
 
 -- B: a rational curve, x 2, p 8 and 0, q_1 4. Its value is 128/264, which is 16/33.
 abbrev numbers-B : List ℤ
