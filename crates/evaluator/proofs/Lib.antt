@@ -5,5 +5,6 @@ pub mod Horner
 pub mod Kept
 pub mod Loading
 pub mod PastOrder
+pub mod ExamplePastOrder
 pub mod Stepping
 pub mod Theorems

@@ -167,7 +167,7 @@ fn steps_out_of_range(h: Header) -> bool
 }
 
 // Refusals 3, 4 and 5.
-pub fn range_refusal(h: Header) -> usize
+fn range_refusal(h: Header) -> usize
     requires { ⌜ h .code ≤ 3 ⌝ }
     ensures { λ r. ⌜ r ≡ first-refusal (range-checks h) ⌝ }
 {

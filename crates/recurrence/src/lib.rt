@@ -66,7 +66,7 @@ fn digit_size(w: i64, f: usize, p: usize) -> i64
 }
 
 // The digit that is taken off w: w over 2^f, rounded by magnitude, so that a tie goes away from zero on both sides, and cut above p.
-pub fn select(w: i64, f: usize, p: usize) -> i64
+fn select(w: i64, f: usize, p: usize) -> i64
     requires { ⌜ (f ≤ 40) × (p ≤ 15) × Within w (2 ^ 45) ⌝ }
     ensures { λ q. ⌜ q ≡ select p (2 ^ f) w ⌝ }
 {

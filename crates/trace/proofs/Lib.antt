@@ -5,3 +5,4 @@ pub mod Reading
 pub mod Writing
 pub mod Recording
 pub mod PastOrder
+pub mod ExamplePastOrder

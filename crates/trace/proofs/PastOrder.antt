@@ -19,19 +19,19 @@ use Rattle.state.proofs.Below.{checked-alike, beyond-ext, list-from-alike}
 use Rattle.job.specs.Refusal.{first-refusal}
 use Rattle.trace.specs.Trace.{digit-list, digit-beyond, zero-record, trace-record, read-answer, trace-refusal, state-refusal, state-record, record-answer, writer-checks, writer-refusal, record-fields, write-answer, write-buffer}
 use Rattle.trace.specs.Digits.{entry-none}
-use Rattle.trace.specs.PastOrder.{ZeroPast, RecordZeros, ReadZeros, RecordBelow, SameMade, WriteBelow}
+use Rattle.trace.specs.PastOrder.{RecordZeroPast, RecordZeros, ReadZeros, RecordBelow, SameMade, WriteBelow}
 use Rattle.trace.specs.Valid.{recorded-valid, steps-most}
 use Rattle.trace.specs.declared.Record.{Record}
 use Rattle.trace.specs.declared.Recorded.{Recorded}
 
 -- ---- zeros
 
-zeros-past : ZeroPast zero-record
+zeros-past : RecordZeroPast zero-record
 unfolding zero-record
 zeros-past = record { digits = λ j i m l o. getD-replicate 960 (16 * j + i) (pos 0) (pos 0) (omega arith) }
 
 -- a choice by a refusal number
-chosen-past : (c : ℕ) (t : Record) → ZeroPast t → ZeroPast (cond (eqb c 0) t zero-record)
+chosen-past : (c : ℕ) (t : Record) → RecordZeroPast t → RecordZeroPast (cond (eqb c 0) t zero-record)
 chosen-past zero t p = p
 chosen-past (suc c) t p = rw (ne-eqb (suc c) 0 (λ e. omega arith)) zeros-past
 

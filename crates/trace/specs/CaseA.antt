@@ -13,7 +13,7 @@ use Rattle.trace.specs.Trace.{digit-list, digit-array, trace-checks, tra
 use Rattle.trace.specs.declared.Record.{Record}
 
 -- row 1: 0, 1, 1, -1; row 2: 1, 0, 0, 0
-pub case-A : Record
+unfoldable pub case-A : Record
 case-A =
     record {
       header = record { kind = 0; code = 0; p = 1; f = 4; n = 2; m = 4 };
@@ -21,7 +21,7 @@ case-A =
       digits = digit-array 2 4 (pos 0 ∷ pos 1 ∷ pos 1 ∷ pos 0 ∷ pos 1 ∷ pos 0 ∷ negsuc 0 ∷ pos 0 ∷ []);
     }
 
-pub trace-A : List ℕ
+unfoldable pub trace-A : List ℕ
 trace-A = 0x01 ∷ 0x10 ∷ 0x44 ∷ 0x10 ∷ 0x01 ∷ 0x08 ∷ 0x02 ∷ 0x0f ∷ 0x80 ∷ []
 
 pub A-written : write (record-fields case-A) ≡ trace-A

@@ -17,16 +17,16 @@ use Rattle.trace.specs.declared.Record.{Record}
 -- ---- a record
 
 -- it has 0 past step k and past row n
-pub record ZeroPast (t : Record) : Type 0 where
+pub record RecordZeroPast (t : Record) : Type 0 where
   pub digits : (j i : ℕ) → j < all-steps → i < 16 → (t .k ≤ j) ⊎ (t .header .n ≤ i) → entry (t .digits) j i ≡ pos 0
 
 -- So has the record of every state and that of every trace. With a refusal it is a record of zeros, whose k
 -- is 0: of it this says that every digit is 0.
 abbrev pub RecordZeros : Type 0
-RecordZeros = (s : State) → ZeroPast (record-answer s .trace)
+RecordZeros = (s : State) → RecordZeroPast (record-answer s .trace)
 
 abbrev pub ReadZeros : Type 0
-ReadZeros = (bytes : List ℕ) → ZeroPast (read-answer bytes .trace)
+ReadZeros = (bytes : List ℕ) → RecordZeroPast (read-answer bytes .trace)
 
 -- ---- the record of a state
 
