@@ -13,7 +13,7 @@ use Rattle.bitfields.specs.Layout.{field, number, bits, run}
 use Rattle.bitfields.specs.Twos.{decode}
 use Rattle.job.specs.Rows.{first-row-from}
 use Rattle.job.specs.System.{curve-entry, matrix, right-side}
-use Rattle.frame.specs.Frame.{frame-checks, frame-refusal}
+use Rattle.frame.specs.Frame.{frame-checks}
 use Rattle.recurrence.specs.Flat.{stepped-digits, stepped-residuals}
 use Rattle.recurrence.specs.Recurrence.{digit, residual, shifted, next-digit, next-residual, reading}
 use Rattle.recurrence.specs.Selection.{select, digit-size}

@@ -1,5 +1,5 @@
 -- What a load tells of its frame, over the variables of the code.
-use mathlib.Core.Path.{_≡_, refl, ap, _∙_}
+use mathlib.Core.Path.{_≡_, ap, _∙_}
 use mathlib.Core.List.{List}
 use Prim.Native.Nat.{ℕ, _<_, _≤_}
 use native.Mathlib.Omega.{arith}
@@ -17,7 +17,7 @@ use Rattle.evaluator.proofs.Theorems.{accepted-load}
 use Rattle.trace.specs.Trace.{record-answer, write-answer, write-buffer}
 use Rattle.trace.specs.declared.Recorded.{Recorded}
 use Rattle.trace.specs.declared.TraceWritten.{TraceWritten}
-use Rattle.emethod_c.specs.Foreign.{answer-of, counted, check-answer, probed, load-probed, job-record, trace-written, trace-buffer}
+use Rattle.emethod_c.specs.Foreign.{answer-of, check-answer, probed, load-probed, job-record, trace-written, trace-buffer}
 
 module _ (frame : List ℕ) (l : Loaded) (e : l ≡ loaded frame) where
   -- of a refused frame

@@ -11,14 +11,9 @@ use Rattle.integers.specs.Flat.{at, entry}
 use Rattle.job.specs.Header.{count}
 use Rattle.job.specs.declared.Header.{Header}
 use Rattle.frame.specs.Frame.{header-of, write-answer}
-use Rattle.state.specs.declared.State.{State}
 use Rattle.evaluator.specs.Evaluator.{loaded, advanced}
-use Rattle.evaluator.specs.declared.Loaded.{Loaded}
-use Rattle.evaluator.specs.declared.Advanced.{Advanced}
 use Rattle.trace.specs.Trace as trace
 use Rattle.trace.specs.declared.Record.{Record}
-use Rattle.trace.specs.declared.Recorded.{Recorded}
-use Rattle.trace.specs.declared.TraceWritten.{TraceWritten}
 use Rattle.accuracy.specs.Promise.{Promise}
 use Rattle.accuracy.specs.declared.Evaluated.{Evaluated}
 

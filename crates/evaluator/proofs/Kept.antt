@@ -4,7 +4,7 @@ use mathlib.Core.Path.{_≡_, refl, sym, ap, _∙_, subst}
 use mathlib.Core.Bool.{Bool, true, false, not, cond}
 use mathlib.Core.List.{List}
 use mathlib.Core.Logic.{_⊎_, inl, inr, _↔_}
-use Prim.Native.Nat.{ℕ, zero, suc, _+_, _*_, _-_, _<_, _≤_}
+use Prim.Native.Nat.{ℕ, zero, suc, _+_, _*_, _<_, _≤_}
 use native.Mathlib.Omega.{arith}
 use borrow.Author.Tests.{leb-true}
 use lib.IntN.{ℤ, pos, natAbs}
@@ -12,7 +12,6 @@ use lib.ListN.{length, List·getD-eq-default}
 use lib.Pow.{pow-pos}
 use Rattle.integers.specs.Flat.{at, entry, at-flat-vector, length-stores, stores-at}
 use Rattle.integers.specs.Maximum.{le-or-lt}
-use Rattle.integers.specs.Product.{weight}
 use Rattle.job.specs.Header.{radix}
 use Rattle.job.specs.Limits.{Limits, radix-least, radix-most, digit-small}
 use Rattle.job.specs.Refusal.{first-refusal}

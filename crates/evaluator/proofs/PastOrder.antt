@@ -1,16 +1,16 @@
 -- No call looks at an entry past the order or changes one, and after a load each is 0: the proofs of the
 -- statements of `specs/PastOrder.antt`.
 use mathlib.Core.Path.{_≡_, refl, sym, ap, ap₂, _∙_}
-use mathlib.Core.Bool.{Bool, cond, _&&_, and-false}
+use mathlib.Core.Bool.{Bool, cond}
 use mathlib.Core.List.{List, [], _∷_, _++_}
 use mathlib.Core.Logic.{_⊎_, inl, inr}
-use Prim.Native.Nat.{ℕ, zero, suc, _+_, _*_, _-_, _/_, _%_, _<_, _≤_}
+use Prim.Native.Nat.{ℕ, zero, suc, _+_, _*_, _-_, _<_, _≤_}
 use native.Mathlib.Omega.{arith}
 use borrow.Author.Tests.{le-ltb}
 use lib.Dec.{ltb}
 use lib.IntN.{ℤ, pos, _-ℤ_, _*ℤ_}
 use lib.ListN.{length, drop, getD-replicate}
-use Rattle.integers.specs.Flat.{at, entry, flat-vector, flat-matrix, getD-list-from, length-stores, stores-other}
+use Rattle.integers.specs.Flat.{at, entry, flat-vector, getD-list-from, length-stores, stores-other}
 use Rattle.integers.specs.Maximum.{le-or-lt}
 use Rattle.integers.specs.Product.{dot-ext}
 use Rattle.job.specs.Header.{radix}

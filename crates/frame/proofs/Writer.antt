@@ -2,8 +2,8 @@
 use mathlib.Core.Path.{_≡_, refl, sym, ap, _∙_}
 use mathlib.Core.Bool.{Bool, true, false, not, _&&_}
 use mathlib.Core.List.{List, [], _∷_, _++_, map, append-nil}
-use Prim.Native.Nat.{ℕ, zero, suc, _+_, _*_, _<_, _≤_}
-use native.Mathlib.Nat.{le-of-eq, mul-le-mul, mul-one}
+use Prim.Native.Nat.{ℕ, suc, _+_, _*_, _<_, _≤_}
+use native.Mathlib.Nat.{le-of-eq, mul-one}
 use native.Mathlib.Numerals.{add-one}
 use native.Mathlib.Omega.{arith}
 use borrow.Author.Tests.{le-ltb, lt-ltb, eq-eqb, ne-eqb, not-false, not-true}
@@ -19,19 +19,7 @@ use Rattle.job.specs.Refusal.{first-refusal}
 use Rattle.job.specs.declared.Header.{Header}
 use Rattle.job.specs.declared.Verdict.{Verdict}
 use Rattle.system.specs.Numbers.{Numbers}
-use Rattle.frame.specs.Frame.{
-  header-fields,
-  frame-fields,
-  frame-length,
-  number-checks,
-  row-of,
-  all-fit,
-  buffer-too-short,
-  writer-checks,
-  writer-refusal,
-  write-answer,
-  write-buffer,
-}
+use Rattle.frame.specs.Frame.{header-fields, frame-fields, frame-length, number-checks, row-of, all-fit, buffer-too-short, writer-checks, writer-refusal, write-answer, write-buffer}
 use Rattle.frame.specs.Valid.{Valid, frame-bits-most, all-fit-true, taken-is}
 use Rattle.frame.specs.RoundTrip.{bits-frame, fit-header}
 use Rattle.frame.specs.Verdicts.{verdict-of, sent-checks, rowless, verdict-before, verdict-first, verdict-after, numbers-small}

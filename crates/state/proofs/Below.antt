@@ -1,7 +1,7 @@
 -- Of two states that agree below the order refusals 20 and 24 come out the same. And the laws of lists that
 -- the calls on such states need. Cited by `PastOrder` of the evaluator and of traces.
 use mathlib.Core.Path.{_≡_, refl, sym, _∙_}
-use mathlib.Core.Bool.{Bool, true, false, cond}
+use mathlib.Core.Bool.{cond}
 use mathlib.Core.List.{List, [], _∷_}
 use mathlib.Core.Logic.{_⊎_, inl, inr}
 use Prim.Native.Nat.{ℕ, zero, suc, _+_, _*_, _<_, _≤_}
@@ -16,7 +16,7 @@ use Rattle.integers.specs.Maximum.{le-or-lt}
 use Rattle.integers.specs.Product.{weight-ext}
 use Rattle.job.specs.Limits.{last-small}
 use Rattle.system.specs.FirstRow.{first-row-ext}
-use Rattle.state.specs.Digits.{all-steps, beyond}
+use Rattle.state.specs.Digits.{beyond}
 use Rattle.state.specs.PastOrder.{SameBelow}
 use Rattle.state.specs.Sound.{Sound, state-of}
 use Rattle.state.specs.State.{breaks-limit, state-checks}

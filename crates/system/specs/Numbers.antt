@@ -1,21 +1,21 @@
 -- The numbers of a job as they are sent: how many there have to be and how large they can be, which the contracts of `matrix` and `right_sides` ask;
 -- and where among them the entries and the right sides stand.
-use mathlib.Core.Path.{_≡_, refl, sym, ap, _∙_}
-use mathlib.Core.Bool.{Bool, true, false, cond}
+use mathlib.Core.Path.{_≡_, refl, ap, _∙_}
+use mathlib.Core.Bool.{cond}
 use mathlib.Core.List.{List}
 use Prim.Native.Nat.{ℕ, zero, suc, _+_, _*_, _<_, _≤_, _^_}
 use native.Mathlib.Nat.{mul-le-mul-right}
 use native.Mathlib.Omega.{arith}
 use lib.Dec.{eqb}
-use lib.IntN.{ℤ, pos, negℤ, natAbs, _-ℤ_, +ℤ-idl}
+use lib.IntN.{ℤ, pos, negℤ, _-ℤ_, +ℤ-idl}
 use lib.ListN.{length}
 use lib.Pow.{pow-mono}
 use lib.Signed.{mag}
 use mir.Syntax.{w64}
 use mir.Val.{toZ, ofZ}
 use mir.Facts.{toZ-ofZ}
-use Rattle.integers.specs.Absolute.{Within, abs-add, abs-neg}
-use Rattle.integers.specs.Flat.{flat-matrix, entry-flat-matrix}
+use Rattle.integers.specs.Absolute.{Within}
+use Rattle.integers.specs.Flat.{flat-matrix}
 use Rattle.integers.specs.Machine.{machs, machine-eq}
 use Rattle.job.specs.Kind.{Kind, system, kind-of, count-of}
 use Rattle.job.specs.Limits.{count-most}

@@ -1,6 +1,6 @@
 -- What job's `system-verdict`, refusals 8 and 9 of a system, comes to: the searches that find it, as the proof of `verdict` cites them; and for its
 -- callers, what it says of every row and right side, and that it looks at rows and columns below the order only.
-use mathlib.Core.Path.{_≡_, sym, ap, ap₂, _∙_}
+use mathlib.Core.Path.{_≡_, sym, ap, ap₂}
 use mathlib.Core.Bool.{true, not, cond}
 use mathlib.Core.List.{List, [], _∷_}
 use mathlib.Core.Logic.{_⊎_, inl, inr}
@@ -15,18 +15,7 @@ use Rattle.integers.specs.Product.{weight, weight-ext}
 use Rattle.job.specs.Header.{unit}
 use Rattle.job.specs.Limits.{Limits}
 use Rattle.job.specs.Refusal.{first-refusal}
-use Rattle.job.specs.Rows.{
-  first-row,
-  light-enough,
-  largest-light,
-  small-enough,
-  residual-kept,
-  residual-most,
-  heavy-row,
-  large-row,
-  large-residual,
-  system-verdict,
-}
+use Rattle.job.specs.Rows.{first-row, light-enough, largest-light, small-enough, residual-kept, residual-most, heavy-row, large-row, large-residual, system-verdict}
 use Rattle.job.specs.declared.Header.{Header}
 use Rattle.job.specs.declared.Verdict.{Verdict}
 use Rattle.system.specs.FirstRow.{Never, first-row-none, first-row-ext}

@@ -7,7 +7,7 @@ use lib.Dec.{ltb, eqb}
 use lib.IntN.{ℤ, pos}
 use lib.ListN.{length, replicate}
 use Rattle.integers.specs.Flat.{at, entry, list-from}
-use Rattle.bitfields.specs.Layout.{Field, each, field, fill, bytes-for, write, written}
+use Rattle.bitfields.specs.Layout.{Field, each, field, fill, bytes-for, written}
 use Rattle.bitfields.specs.Twos.{encode, numbers}
 use Rattle.job.specs.Header.{trace-read-checks, trace-header-checks, zero-header}
 use Rattle.job.specs.Refusal.{Check, first-refusal}

@@ -1,5 +1,4 @@
 -- What `evaluate` promises, and its answer in one number.
-use mathlib.Core.Path.{_≡_}
 use borrow.Author.Needs.{needs}
 use Rattle.emethod_c.proofs.em_evaluate.Statement.{statement}
 use Rattle.emethod_c.proofs.em_evaluate.Tie as tie

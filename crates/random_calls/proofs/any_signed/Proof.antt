@@ -1,5 +1,5 @@
 -- Half of a number of 64 bits is below 2^63, so that 1 less than its negation fits.
-use Prim.Native.Nat.{_/_, _%_}
+use Prim.Native.Nat.{_/_}
 use native.Mathlib.Omega.{arith}
 use Rattle.random_calls.proofs.Signs.{below-zero}
 use borrow.Author.Needs.{needs}

@@ -1,9 +1,7 @@
 -- The first condition that holds decides.
-use mathlib.Core.Path.{_≡_}
-use Prim.Native.Nat.{_≤_, _<_}
+use Prim.Native.Nat.{_≤_}
 use native.Mathlib.Omega.{arith}
 use borrow.Author.Needs.{needs}
-use Rattle.job.specs.Limits.{Limits}
 use Rattle.job.specs.Rules.{last-step}
 use Rattle.state.proofs.Checks.{header-passes, searchable, header-breaks, steps-break, row-breaks, residual-breaks, digits-decide}
 use Rattle.state.proofs.breaks_limit.Statement.{statement}
