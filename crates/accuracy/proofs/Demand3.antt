@@ -9,7 +9,8 @@ use Rattle.integers.specs.Flat.{at, list-from, length-list-from, getD-list-from
 use Rattle.integers.specs.Product.{dot, weight, dot-ext}
 use Rattle.job.specs.Header.{radix, unit}
 use Rattle.job.specs.Kind.{kind-of}
-use Rattle.job.specs.Limits.{Limits, radix-least, unit-least, inner-least, digit-positive, last-small}
+use Rattle.job.specs.Limits.{Limits}
+use Rattle.job.proofs.Limits.{radix-least, unit-least, inner-least, digit-positive, last-small}
 use Rattle.job.specs.Rules.{last-step, inner-unit, bound-over, bound-under}
 use Rattle.job.specs.System.{matrix-of, right-side-of}
 use Rattle.job.specs.declared.Header.{Header}

@@ -13,7 +13,8 @@ use lib.ListN.{length, take, drop, getD, length-append, length-drop, take-append
 use lib.Seq.{length-take-le, take-all, take-length, drop-cons, take-at, drop-at, drop-drop, getD-append-add, getD-drop}
 use Rattle.integers.specs.Flat.{at, length-list-from}
 use Rattle.integers.specs.Maximum.{le-or-lt}
-use Rattle.job.specs.Refusal.{first-refusal, None, none, also, accepted-before}
+use Rattle.job.specs.Refusal.{first-refusal, None, none, also}
+use Rattle.job.proofs.Refusal.{accepted-before}
 use Rattle.job.specs.declared.Header.{Header}
 use Rattle.state.specs.State.{state-checks}
 use Rattle.state.specs.declared.State.{State}

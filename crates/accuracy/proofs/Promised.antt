@@ -9,7 +9,7 @@ use lib.IntN.{ℤ}
 use lib.ListN.{length, drop}
 use Rattle.integers.specs.Flat.{list-from}
 use Rattle.job.specs.Header.{radix}
-use Rattle.job.specs.Limits as limits
+use Rattle.job.proofs.Limits as limits
 use Rattle.job.specs.Refusal.{first-refusal}
 use Rattle.job.specs.declared.Header.{Header}
 use Rattle.frame.specs.Frame.{frame-refusal, header-of, frame-numbers}

@@ -13,7 +13,8 @@ use lib.Seq.{take-suc}
 use native.Mathlib.Numerals.{add-one}
 use Rattle.integers.specs.Maximum.{le-or-lt}
 use Rattle.job.specs.Rules.{last-step}
-use Rattle.job.specs.Refusal.{first-refusal, accepted-before}
+use Rattle.job.specs.Refusal.{first-refusal}
+use Rattle.job.proofs.Refusal.{accepted-before}
 use Rattle.state.specs.State.{state-checks, state-last}
 use Rattle.state.specs.declared.State.{State}
 use Rattle.evaluator.specs.Evaluator.{steps, least, advanced, advance-checks, steps-made}

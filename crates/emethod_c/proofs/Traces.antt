@@ -9,7 +9,8 @@ use lib.IntN.{ℤ, pos}
 use lib.ListN.{length, getD, set, drop}
 use lib.Seq.{sets, sets-eq, length-sets}
 use Rattle.integers.specs.Flat.{at, list-from}
-use Rattle.job.specs.Limits.{Limits, digit-small, steps-small, trace-small}
+use Rattle.job.specs.Limits.{Limits}
+use Rattle.job.proofs.Limits.{digit-small, steps-small, trace-small}
 use Rattle.job.specs.Rules.{trace-steps}
 use Rattle.job.specs.declared.Header.{Header}
 use Rattle.trace.specs.Trace.{digit-list, trace-refusal, trace-record, read-answer, writer-refusal, write-answer, write-buffer}

@@ -12,7 +12,8 @@ use lib.IntN.{ℤ}
 use lib.ListN.{length, drop}
 use Rattle.integers.specs.Flat.{list-from}
 use Rattle.integers.specs.Maximum.{le-or-lt}
-use Rattle.job.specs.Refusal.{Check, first-refusal, None, none, also, numbered, accepted-exactly, refused-before, accepted-before}
+use Rattle.job.specs.Refusal.{Check, first-refusal, None, none, also}
+use Rattle.job.proofs.Refusal.{numbered, accepted-exactly, refused-before, accepted-before}
 use Rattle.state.specs.Sound.{Sound}
 use Rattle.state.specs.State.{state-checks, state-last}
 use Rattle.state.specs.declared.State.{State}

@@ -14,7 +14,7 @@ use Rattle.integers.specs.Flat.{entry}
 use Rattle.integers.specs.Machine.{Machine, known, bounded, cast-is, read-i8, read-i64, machine-add, machine-fits, machine-eq}
 use Rattle.job.specs.Header.{digit-bits, radix}
 use Rattle.job.specs.Rules.{last-step}
-use Rattle.job.specs.Limits.{radix-least, radix-most, last-bits, last-small}
+use Rattle.job.proofs.Limits.{radix-least, radix-most, last-bits, last-small}
 use Rattle.job.specs.declared.Header.{Header}
 use Rattle.recurrence.specs.Recurrence.{reading}
 use Rattle.state.specs.Digits.{digits-of}

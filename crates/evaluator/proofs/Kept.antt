@@ -13,7 +13,8 @@ use lib.Pow.{pow-pos}
 use Rattle.integers.specs.Flat.{at, entry, at-flat-vector, length-stores, stores-at}
 use Rattle.integers.specs.Maximum.{le-or-lt}
 use Rattle.job.specs.Header.{radix}
-use Rattle.job.specs.Limits.{Limits, radix-least, radix-most, digit-small}
+use Rattle.job.specs.Limits.{Limits}
+use Rattle.job.proofs.Limits.{radix-least, radix-most, digit-small}
 use Rattle.job.specs.Refusal.{first-refusal}
 use Rattle.job.specs.Rows.{light-enough}
 use Rattle.job.specs.Rules.{last-step, inner-bits, inner-unit, bound-over, bound-under}

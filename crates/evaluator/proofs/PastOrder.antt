@@ -14,9 +14,10 @@ use Rattle.integers.specs.Flat.{at, entry, flat-vector, getD-list-from, length-
 use Rattle.integers.specs.Maximum.{le-or-lt}
 use Rattle.integers.specs.Product.{dot-ext}
 use Rattle.job.specs.Header.{radix}
-use Rattle.job.specs.Limits.{last-small}
+use Rattle.job.proofs.Limits.{last-small}
 use Rattle.system.specs.Setup.{past-order}
-use Rattle.job.specs.Refusal.{Check, first-refusal, refused-before}
+use Rattle.job.specs.Refusal.{Check, first-refusal}
+use Rattle.job.proofs.Refusal.{refused-before}
 use Rattle.job.specs.System.{matrix-of, right-side-of}
 use Rattle.job.specs.declared.Header.{Header}
 use Rattle.recurrence.specs.Flat.{stepped-digits, stepped-residuals}

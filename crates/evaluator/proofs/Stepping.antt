@@ -17,7 +17,7 @@ use lib.Seq.{ext-getD}
 use Rattle.integers.specs.Flat.{at, flat-vector, at-flat-vector, length-list-from, getD-list-from, length-stores}
 use Rattle.integers.specs.Maximum.{le-or-lt}
 use Rattle.job.specs.Header.{radix}
-use Rattle.job.specs.Limits as limits
+use Rattle.job.proofs.Limits as limits
 use Rattle.job.specs.Rules.{inner-bits}
 use Rattle.job.specs.declared.Header.{Header}
 use Rattle.recurrence.specs.Flat.{filled, digit-from, residual-from, Vector, Choosable, Ready}

@@ -12,7 +12,8 @@ use lib.IntN.{ℤ}
 use lib.ListN.{length, take, drop}
 use lib.Seq.{take-at, drop-at}
 use Rattle.integers.specs.Flat.{list-from, length-list-from}
-use Rattle.job.specs.Refusal.{First, None, first-refusal, refused-exactly, accepted-exactly}
+use Rattle.job.specs.Refusal.{First, None, first-refusal}
+use Rattle.job.proofs.Refusal.{refused-exactly, accepted-exactly}
 use Rattle.frame.specs.Frame.{header-of, frame-numbers, frame-checks, frame-refusal}
 use Rattle.frame.specs.Theorems.{frame-refused, frame-accepted}
 use Rattle.state.specs.State.{idle-state, fresh, state-checks, state-last}

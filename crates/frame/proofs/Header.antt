@@ -7,7 +7,8 @@ use native.Mathlib.Omega.{arith}
 use lib.ListN.{length, take, drop}
 use Rattle.bitfields.specs.Layout.{number8, Bytes}
 use Rattle.bitfields.proofs.Steps.{window}
-use Rattle.job.specs.Limits.{Limits, digit-small, steps-small}
+use Rattle.job.specs.Limits.{Limits}
+use Rattle.job.proofs.Limits.{digit-small, steps-small}
 use Rattle.job.specs.declared.Header.{Header}
 use Rattle.frame.specs.Frame.{header-of}
 

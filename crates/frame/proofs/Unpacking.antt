@@ -12,8 +12,10 @@ use Rattle.bitfields.specs.Layout.{field, fill}
 use Rattle.bitfields.specs.Twos.{numbers}
 use Rattle.job.specs.Header.{count, read-checks}
 use Rattle.job.specs.Kind.{kind-of}
-use Rattle.job.specs.Limits.{Limits, count-most}
-use Rattle.job.specs.Refusal.{first-refusal, refused-before, accepted-before}
+use Rattle.job.specs.Limits.{Limits}
+use Rattle.job.proofs.Limits.{count-most}
+use Rattle.job.specs.Refusal.{first-refusal}
+use Rattle.job.proofs.Refusal.{refused-before, accepted-before}
 use Rattle.job.specs.declared.Header.{Header}
 use Rattle.frame.specs.declared.FrameRead.{FrameRead}
 use Rattle.frame.specs.Frame.{header-of, frame-bits, frame-length, wrong-length, fill-bit-set}

@@ -13,7 +13,8 @@ use Rattle.bitfields.proofs.Writing.{write-framed}
 use Rattle.bitfields.proofs.RoundTrip.{fields-write, write-fields}
 use Rattle.bitfields.proofs.Twos.{fit-encodes, fields-numbers, numbers-after}
 use Rattle.job.specs.Header.{number-bits, count}
-use Rattle.job.specs.Limits.{Limits, digit-small, steps-small}
+use Rattle.job.specs.Limits.{Limits}
+use Rattle.job.proofs.Limits.{digit-small, steps-small}
 use Rattle.job.specs.declared.Header.{Header}
 use Rattle.frame.specs.Frame.{header-fields, header-of, frame-fields, frame-bits, frame-length, frame-numbers}
 use Rattle.frame.specs.Valid.{Laid, Valid, Accepted}

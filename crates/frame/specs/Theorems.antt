@@ -17,28 +17,13 @@ use Rattle.bitfields.proofs.Twos.{length-numbers}
 use Rattle.bitfields.proofs.Writing.{drop-written}
 use Rattle.job.specs.Header.{number-bits, count, zero-header}
 use Rattle.job.specs.Limits.{Limits}
-use Rattle.job.specs.Refusal.{First, None, refused-exactly, accepted-exactly}
+use Rattle.job.specs.Refusal.{First, None}
+use Rattle.job.proofs.Refusal.{refused-exactly, accepted-exactly}
 use Rattle.job.specs.Rows.{light-enough, small-enough}
 use Rattle.job.specs.System.{matrix-of, right-side-of}
 use Rattle.job.specs.declared.Header.{Header}
 use Rattle.system.specs.FirstRow as FirstRow
-use Rattle.frame.specs.Frame.{
-  header-of,
-  frame-fields,
-  frame-length,
-  frame-numbers,
-  frame-checks,
-  frame-refusal,
-  row-of,
-  reader-checks,
-  reader-refusal,
-  read-answer,
-  read-list,
-  writer-checks,
-  writer-refusal,
-  write-answer,
-  write-buffer,
-}
+use Rattle.frame.specs.Frame.{header-of, frame-fields, frame-length, frame-numbers, frame-checks, frame-refusal, row-of, reader-checks, reader-refusal, read-answer, read-list, writer-checks, writer-refusal, write-answer, write-buffer}
 use Rattle.frame.specs.Valid.{Valid, Accepted, frame-bits-most, accepted-is, read-is, taken-is}
 use Rattle.frame.specs.RoundTrip.{bits-frame, write-laid, header-written, numbers-written, length-written, written-accepted}
 

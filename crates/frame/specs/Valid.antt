@@ -18,33 +18,17 @@ use Rattle.bitfields.specs.Twos.{Fits, AllFit, fitsb}
 use Rattle.bitfields.proofs.Reading.{field-lt}
 use Rattle.bitfields.proofs.Twos.{fits-fitsb, fitsb-true, length-numbers, numbers-fit}
 use Rattle.job.specs.Header.{number-bits, count, header-checks, read-checks}
-use Rattle.job.specs.Refusal.{Check, first-refusal, None, none, also, accepted-exactly}
+use Rattle.job.specs.Refusal.{Check, first-refusal, None, none, also}
+use Rattle.job.proofs.Refusal.{accepted-exactly}
 use Rattle.job.specs.Kind.{kind-of}
-use Rattle.job.specs.Limits.{Limits, limits-exactly, read-limits, count-most}
+use Rattle.job.specs.Limits.{Limits}
+use Rattle.job.proofs.Limits.{limits-exactly, read-limits, count-most}
 use Rattle.job.specs.Rows.{light-enough, small-enough}
 use Rattle.job.specs.System.{matrix-of, right-side-of}
 use Rattle.job.specs.declared.Header.{Header}
 use Rattle.job.specs.declared.Verdict.{Verdict}
 use Rattle.system.specs.Verdict.{verdict-light, verdict-small, verdict-accepts}
-use Rattle.frame.specs.Frame.{
-  header-of,
-  frame-bits,
-  frame-length,
-  frame-numbers,
-  layout-checks,
-  number-checks,
-  frame-checks,
-  frame-refusal,
-  list-too-short,
-  reader-checks,
-  reader-refusal,
-  wrong-count,
-  all-fit,
-  number-too-wide,
-  buffer-too-short,
-  writer-checks,
-  writer-refusal,
-}
+use Rattle.frame.specs.Frame.{header-of, frame-bits, frame-length, frame-numbers, layout-checks, number-checks, frame-checks, frame-refusal, list-too-short, reader-checks, reader-refusal, wrong-count, all-fit, number-too-wide, buffer-too-short, writer-checks, writer-refusal}
 
 -- 1 to 7 leave: a header within the limits, the length that the fields demand, and filling bits that are 0
 pub record Laid (s : List ℕ) : Type 0 where

@@ -15,7 +15,8 @@ use Rattle.integers.specs.Normal.{both, both-left, both-right}
 use Rattle.bitfields.specs.Twos.{AllFit}
 use Rattle.job.specs.Header.{number-bits, count}
 use Rattle.job.specs.Limits.{Limits}
-use Rattle.job.specs.Refusal.{Check, first-refusal, numbered, refused-before, accepted-before}
+use Rattle.job.specs.Refusal.{Check, first-refusal}
+use Rattle.job.proofs.Refusal.{numbered, refused-before, accepted-before}
 use Rattle.job.specs.Rows.{system-verdict}
 use Rattle.job.specs.System.{matrix-of, right-side-of}
 use Rattle.job.specs.declared.Header.{Header}

@@ -9,8 +9,10 @@ use lib.IntN.{ℤ}
 use lib.ListN.{length}
 use Rattle.integers.specs.Maximum.{le-or-lt}
 use Rattle.job.specs.Rules.{last-step}
-use Rattle.job.specs.Limits.{Limits, last-least, last-small}
-use Rattle.job.specs.Refusal.{first-refusal, accepted-before}
+use Rattle.job.specs.Limits.{Limits}
+use Rattle.job.proofs.Limits.{last-least, last-small}
+use Rattle.job.specs.Refusal.{first-refusal}
+use Rattle.job.proofs.Refusal.{accepted-before}
 use Rattle.job.specs.declared.Header.{Header}
 use Rattle.frame.specs.Frame.{frame-refusal, row-of, header-of, frame-numbers}
 use Rattle.state.specs.State.{fresh, state-checks}

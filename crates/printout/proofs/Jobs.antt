@@ -10,8 +10,9 @@ use lib.ListN.{length, length-append}
 use lib.Seq.{getD-take}
 use Rattle.integers.specs.Flat.{at, getD-list-from}
 use Rattle.job.specs.Header.{radix}
-use Rattle.job.specs.Limits.{last-small}
-use Rattle.job.specs.Refusal.{first-refusal, accepted-before}
+use Rattle.job.proofs.Limits.{last-small}
+use Rattle.job.specs.Refusal.{first-refusal}
+use Rattle.job.proofs.Refusal.{accepted-before}
 use Rattle.job.specs.declared.Header.{Header}
 use Rattle.state.specs.Sound.{Sound}
 use Rattle.state.specs.State.{state-checks}

@@ -14,7 +14,7 @@ use lib.Seq.{getD-set-other}
 use Rattle.integers.specs.Flat.{at, entry, list-from, flat-vector, stores, length-stores}
 use Rattle.integers.specs.Maximum.{le-or-lt}
 use Rattle.integers.specs.Product.{weight-ext}
-use Rattle.job.specs.Limits.{last-small}
+use Rattle.job.proofs.Limits.{last-small}
 use Rattle.system.specs.FirstRow.{first-row-ext}
 use Rattle.state.specs.Digits.{beyond}
 use Rattle.state.specs.PastOrder.{SameBelow}

@@ -7,7 +7,8 @@ use native.Mathlib.Omega.{arith}
 use borrow.Author.Tests.{lt-ltb, le-ltb}
 use Rattle.integers.specs.Flat.{at, entry}
 use Rattle.job.specs.Header.{header-checks}
-use Rattle.job.specs.Limits.{Limits, limits-exactly, digit-small, last-small}
+use Rattle.job.specs.Limits.{Limits}
+use Rattle.job.proofs.Limits.{limits-exactly, digit-small, last-small}
 use Rattle.job.specs.Refusal.{first-refusal}
 use Rattle.job.specs.Rows.{heavy-row, large-residual}
 use Rattle.job.specs.Rules.{last-step}

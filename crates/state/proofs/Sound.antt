@@ -13,7 +13,8 @@ use Rattle.integers.specs.Absolute.{abs-zero}
 use Rattle.integers.specs.Flat.{at, entry, flat-matrix, at-flat-vector, entry-flat-matrix}
 use Rattle.integers.specs.Product.{weight, weight-ext}
 use Rattle.job.specs.Header.{unit, header-checks}
-use Rattle.job.specs.Limits.{Limits, limits-exactly, last-small}
+use Rattle.job.specs.Limits.{Limits}
+use Rattle.job.proofs.Limits.{limits-exactly, last-small}
 use Rattle.job.specs.Refusal.{first-refusal}
 use Rattle.job.specs.Rows.{light-enough, small-enough, residual-kept}
 use Rattle.job.specs.Rules.{inner-unit, bound-over, bound-under}

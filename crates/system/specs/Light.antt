@@ -12,7 +12,8 @@ use lib.Dec.{leb, ltb}
 use lib.IntN.{ℤ, natAbs}
 use Rattle.integers.specs.Maximum.{le-or-lt}
 use Rattle.job.specs.Header.{radix, unit}
-use Rattle.job.specs.Limits.{Limits, radix-least, radix-most, digit-positive, digit-small, unit-most, ltb-quotient}
+use Rattle.job.specs.Limits.{Limits}
+use Rattle.job.proofs.Limits.{radix-least, radix-most, digit-positive, digit-small, unit-most, ltb-quotient}
 use Rattle.job.specs.Rows.{weight-factor, weight-room, light-enough, largest-light, small-enough, residual-kept, residual-most}
 use Rattle.job.specs.Rules.{inner-unit, bound-over, bound-under}
 use Rattle.job.specs.declared.Header.{Header}

@@ -18,7 +18,7 @@ use Rattle.integers.specs.Absolute.{Within}
 use Rattle.integers.specs.Flat.{flat-matrix}
 use Rattle.integers.specs.Machine.{machs, machine-eq}
 use Rattle.job.specs.Kind.{Kind, system, kind-of, count-of}
-use Rattle.job.specs.Limits.{count-most}
+use Rattle.job.proofs.Limits.{count-most}
 use Rattle.job.specs.System.{sent, argument, denominator, no-denominator, curve-entry, system-entry, matrix, right-place, right-side}
 
 -- v has c numbers, none of a magnitude above 2^41

@@ -18,8 +18,10 @@ use Rattle.bitfields.proofs.Spelling.{bits-each, bits-append, bits-one, fit-app
 use Rattle.bitfields.proofs.Writing.{put-one, put-written, put-zero}
 use Rattle.bitfields.proofs.Twos.{fit-encodes}
 use Rattle.job.specs.Header.{trace-header-checks}
-use Rattle.job.specs.Limits.{Limits, trace-limits}
-use Rattle.job.specs.Refusal.{Check, first-refusal, accepted-before, refused-before}
+use Rattle.job.specs.Limits.{Limits}
+use Rattle.job.proofs.Limits.{trace-limits}
+use Rattle.job.specs.Refusal.{Check, first-refusal}
+use Rattle.job.proofs.Refusal.{accepted-before, refused-before}
 use Rattle.job.specs.declared.Header.{Header}
 use Rattle.job.specs.Rules.{trace-steps}
 use Rattle.frame.specs.Frame.{header-fields}

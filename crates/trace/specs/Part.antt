@@ -14,7 +14,8 @@ use Rattle.bitfields.specs.Layout.{field, fill, bytes-for}
 use Rattle.bitfields.specs.Twos.{decode, numbers}
 use Rattle.bitfields.proofs.Reading.{field-drop, run-drop}
 use Rattle.job.specs.Header.{trace-read-checks}
-use Rattle.job.specs.Refusal.{Check, first-refusal, accepted-before}
+use Rattle.job.specs.Refusal.{Check, first-refusal}
+use Rattle.job.proofs.Refusal.{accepted-before}
 use Rattle.job.specs.declared.Header.{Header}
 use Rattle.frame.specs.Frame.{header-of}
 use Rattle.trace.specs.Trace.{digit-array, too-many-steps, digit-beyond, wrong-length, fill-bit-set, trace-bits, trace-length, steps-of, trace-digits, trace-checks, trace-record, read-answer, zero-record}

@@ -12,7 +12,8 @@ use Rattle.bitfields.proofs.Spelling.{bits-each, bytes-fit, fit-append, sum-rep
 use Rattle.bitfields.proofs.Writing.{write-framed}
 use Rattle.bitfields.proofs.RoundTrip.{fields-write, write-fields}
 use Rattle.bitfields.proofs.Twos.{fit-encodes, fields-numbers, length-numbers, numbers-after}
-use Rattle.job.specs.Limits.{Limits, trace-small}
+use Rattle.job.specs.Limits.{Limits}
+use Rattle.job.proofs.Limits.{trace-small}
 use Rattle.job.specs.declared.Header.{Header}
 use Rattle.frame.specs.Frame.{header-fields, header-of}
 use Rattle.frame.specs.RoundTrip.{fit-header, header-spelled}

@@ -14,7 +14,8 @@ use lib.ListN.{length, take, drop}
 use Rattle.integers.specs.Flat.{entry}
 use Rattle.bitfields.specs.Layout.{bits, bytes-for, Bytes, write, written}
 use Rattle.bitfields.proofs.Writing.{take-written, drop-written}
-use Rattle.job.specs.Refusal.{First, None, refused-exactly, accepted-exactly}
+use Rattle.job.specs.Refusal.{First, None}
+use Rattle.job.proofs.Refusal.{refused-exactly, accepted-exactly}
 use Rattle.job.specs.declared.Header.{Header}
 use Rattle.state.specs.State.{state-checks}
 use Rattle.state.specs.declared.State.{State}

@@ -16,8 +16,10 @@ use Rattle.integers.specs.Flat.{entry}
 use Rattle.bitfields.specs.Layout.{fill, field}
 use Rattle.bitfields.specs.Twos.{Fits, AllFit}
 use Rattle.job.specs.Header.{trace-header-checks, trace-read-checks}
-use Rattle.job.specs.Refusal.{first-refusal, None, none, also, accepted-exactly}
-use Rattle.job.specs.Limits.{Limits, trace-limits, trace-read-limits, digit-small, trace-small, last-in-trace}
+use Rattle.job.specs.Refusal.{first-refusal, None, none, also}
+use Rattle.job.proofs.Refusal.{accepted-exactly}
+use Rattle.job.specs.Limits.{Limits}
+use Rattle.job.proofs.Limits.{trace-limits, trace-read-limits, digit-small, trace-small, last-in-trace}
 use Rattle.job.specs.declared.Header.{Header}
 use Rattle.frame.specs.Frame.{header-of}
 use Rattle.frame.specs.Valid.{read-order}

@@ -4,7 +4,7 @@ use mathlib.Core.Bool.{true}
 use Prim.Native.Nat.{_-_, _≤_}
 use borrow.Author.Needs.{needs}
 use native.Mathlib.Omega.{arith}
-use Rattle.job.specs.Limits.{inner-bits-most}
+use Rattle.job.proofs.Limits.{inner-bits-most}
 use Rattle.recurrence.proofs.Ready.{rows-small, digits-signs}
 use Rattle.recurrence.proofs.Table.{table-summed}
 use Rattle.state.specs.Sound.{state-of}

@@ -6,7 +6,7 @@ use borrow.Author.Needs.{needs}
 use native.Mathlib.Omega.{arith}
 use lib.IntN.{pos}
 use lib.ListN.{length, replicate}
-use Rattle.job.specs.Limits.{inner-bits-most}
+use Rattle.job.proofs.Limits.{inner-bits-most}
 use Rattle.recurrence.proofs.Ready.{rows-summable}
 use Rattle.state.specs.Sound.{state-of}
 use Rattle.evaluator.proofs.Stepping.{Reached, last-small, rows-summed, first-ready, reached-start, reached-may, reached-next}

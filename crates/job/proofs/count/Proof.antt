@@ -2,7 +2,7 @@
 use borrow.Author.Needs.{needs}
 use native.Mathlib.Omega.{arith}
 use Rattle.job.specs.Kind.{system}
-use Rattle.job.specs.Limits.{other-kind, count-most}
+use Rattle.job.proofs.Limits.{other-kind, count-most}
 use Rattle.job.proofs.count.Statement.{statement}
 use Rattle.job.proofs.count.Tie as tie
 

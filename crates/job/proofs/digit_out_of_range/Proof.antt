@@ -1,7 +1,7 @@
 -- The first test decides, or else the second.
 use borrow.Author.Needs.{needs}
 use borrow.Author.Tests.{lt-ltb, le-ltb}
-use Rattle.job.specs.Limits.{radix-some}
+use Rattle.job.proofs.Limits.{radix-some}
 use Rattle.job.proofs.digit_out_of_range.Statement.{statement}
 use Rattle.job.proofs.digit_out_of_range.Tie as tie
 

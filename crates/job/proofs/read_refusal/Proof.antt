@@ -2,7 +2,7 @@
 use mathlib.Core.Path.{ap, _∙_}
 use borrow.Author.Needs.{needs}
 use Rattle.job.specs.Header.{read-checks-knowing}
-use Rattle.job.specs.Limits.{code-small}
+use Rattle.job.proofs.Limits.{code-small}
 use Rattle.job.specs.Refusal.{first-refusal}
 use Rattle.job.proofs.read_refusal.Statement.{statement}
 use Rattle.job.proofs.read_refusal.Tie as tie

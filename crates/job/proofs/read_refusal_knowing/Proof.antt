@@ -1,7 +1,7 @@
 -- The first condition that holds decides.
 use mathlib.Core.Path.{_∙_, sym}
 use borrow.Author.Needs.{needs}
-use Rattle.job.specs.Limits.{known-header}
+use Rattle.job.proofs.Limits.{known-header}
 use Rattle.job.proofs.read_refusal_knowing.Statement.{statement}
 use Rattle.job.proofs.read_refusal_knowing.Tie as tie
 

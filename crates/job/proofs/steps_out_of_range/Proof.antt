@@ -2,7 +2,7 @@
 use borrow.Author.Needs.{needs}
 use borrow.Author.Tests.{eq-eqb, ne-eqb}
 use native.Mathlib.Omega.{arith}
-use Rattle.job.specs.Limits.{ltb-quotient}
+use Rattle.job.proofs.Limits.{ltb-quotient}
 use Rattle.job.proofs.steps_out_of_range.Statement.{statement}
 use Rattle.job.proofs.steps_out_of_range.Tie as tie
 

@@ -1,6 +1,6 @@
 -- The first test decides, or else the second.
 use borrow.Author.Tests.{lt-ltb, le-ltb}
-use Rattle.job.specs.Limits.{unused-is}
+use Rattle.job.proofs.Limits.{unused-is}
 use Rattle.job.proofs.unknown_kind.Statement.{statement}
 use Rattle.job.proofs.unknown_kind.Tie as tie
 

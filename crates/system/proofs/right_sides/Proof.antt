@@ -7,7 +7,7 @@ use lib.ListN.{replicate}
 use Rattle.integers.specs.Flat.{stores, stores-zero}
 use Rattle.job.specs.Header.{count}
 use Rattle.job.specs.Kind.{kind-of}
-use Rattle.job.specs.Limits.{count-most}
+use Rattle.job.proofs.Limits.{count-most}
 use Rattle.job.specs.System.{right-side, right-side-of}
 use Rattle.system.specs.Numbers.{right-read, right-place-most}
 use Rattle.system.specs.Setup.{stores-more, vector-filled}

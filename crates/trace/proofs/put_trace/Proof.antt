@@ -3,7 +3,7 @@ use borrow.Author.Needs.{needs}
 use Prim.Native.Nat.{_^_, _<_}
 use native.Mathlib.Omega.{arith}
 use Rattle.bitfields.proofs.Spelling.{slice-bytes}
-use Rattle.job.specs.Limits.{trace-small}
+use Rattle.job.proofs.Limits.{trace-small}
 use Rattle.trace.specs.RoundTrip.{fit-head}
 use Rattle.trace.proofs.Writing.{head-small, trace-put}
 use Rattle.trace.proofs.put_trace.Statement.{statement}

@@ -6,7 +6,7 @@ use native.Mathlib.Omega.{arith}
 use lib.ListN.{length}
 use Rattle.bitfields.specs.Layout.{bytes-for}
 use Rattle.bitfields.proofs.Reading.{field-lt}
-use Rattle.job.specs.Limits.{digit-small, trace-small}
+use Rattle.job.proofs.Limits.{digit-small, trace-small}
 use Rattle.trace.specs.Part.{part-answer, part-bits, refused-by}
 use Rattle.trace.proofs.Reading.{part-beyond, part-read, part-refused, size-facts}
 use Rattle.trace.proofs.read_part.Statement.{statement}

@@ -2,7 +2,8 @@
 use borrow.Author.Needs.{needs}
 use Prim.Native.Nat.{_≤_}
 use native.Mathlib.Omega.{arith}
-use Rattle.job.specs.Limits.{Limits, digit-small, trace-small}
+use Rattle.job.specs.Limits.{Limits}
+use Rattle.job.proofs.Limits.{digit-small, trace-small}
 use Rattle.job.specs.Rules.{trace-steps}
 use Rattle.trace.proofs.Writing.{header-limits, refused-digit, refused-header, refused-not, refused-room, refused-steps}
 use Rattle.trace.proofs.writer_refusal.Statement.{statement}

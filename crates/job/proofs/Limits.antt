@@ -1,0 +1,186 @@
+-- The limits of a header are just what refusals 2, 14, 3, 4 and 5 leave, and what they give as plain numbers. Cited wherever a
+-- proof needs a bound.
+use mathlib.Core.Path.{_≡_, refl, sym, ap, _∙_}
+use mathlib.Core.Bool.{Bool, true, false, not}
+use mathlib.Core.Logic.{_↔_, _⊎_, inl, inr}
+use Prim.Native.Nat.{ℕ, zero, suc, _+_, _*_, _-_, _/_, _^_, _<_, _≤_}
+use native.Mathlib.Nat.{div-lt-iff-lt-mul, mul-le-mul}
+use native.Mathlib.Omega.{arith}
+use borrow.Author.Tests.{lt-ltb, le-ltb, le-leb, leb-true, ltb-false, eqb-false, ne-eqb, not-false}
+use lib.Dec.{ltb, leb, eqb}
+use lib.Pow.{pow-mono, pow-pos}
+use Rattle.integers.specs.Maximum.{le-or-lt}
+use Rattle.job.specs.Refusal.{first-refusal, None, none, also}
+use Rattle.job.proofs.Refusal.{accepted-exactly, neither, fails, both-fail}
+use Rattle.job.specs.Header.{radix, digit-bits, unit, frame-code, trace-code, unknown-kind, read-checks-knowing, header-checks-knowing, read-checks, trace-read-checks, trace-header-checks}
+use Rattle.job.specs.Kind.{Kind, polynomial, rational, system, unused, kind-of, is-unused, count-of}
+use Rattle.job.specs.Rules.{last-step, trace-steps, inner-bits, inner-unit}
+use Rattle.job.specs.declared.Header.{Header}
+use Rattle.job.specs.Limits.{Limits, LimitsExactly}
+
+fewer : (m c : ℕ) → m * (c + 1) ≤ 60 → m ≤ 60
+fewer m c g = omega arith
+
+-- ---- the table of kinds: a number past its end, as the code tests it
+
+pub unused-is : (k : ℕ) → ltb 2 k ≡ is-unused (kind-of k)
+unused-is zero = refl
+unused-is (suc zero) = refl
+unused-is (suc (suc zero)) = refl
+unused-is (suc (suc (suc k))) = lt-ltb 2 (suc (suc (suc k))) (omega arith)
+
+pub other-kind : (k : ℕ) → (k ≡ 0 → ⊥) → (k ≡ 1 → ⊥) → (k ≡ 2 → ⊥) → kind-of k ≡ unused
+other-kind zero a b c = absurd (a refl)
+other-kind (suc zero) a b c = absurd (b refl)
+other-kind (suc (suc zero)) a b c = absurd (c refl)
+other-kind (suc (suc (suc k))) a b c = refl
+
+-- a kind and a radix code that are known are those of the tables
+module _ (h : Header) (known : Bool) (codes : known ≡ true → h .code ≤ 3) where
+  pub known-header : unknown-kind known h ≡ false → (h .kind ≤ 2) × (h .code ≤ 3)
+  known-header e =
+      let k = neither (is-unused (kind-of (h .kind))) (not known) (rw e tt) in
+      (ltb-false 2 (h .kind) (unused-is (h .kind) ∙ k .0), codes (not-false known (k .1)))
+
+-- ---- `known` is the test of a radix code against the table's last
+module _ (h : Header) (known : Bool) (codes : known ≡ leb (h .code) 3) where
+  pub code-small : known ≡ true → h .code ≤ 3
+  code-small t = leb-true _ _ (sym codes ∙ t)
+
+  checks-limits : None (header-checks-knowing known h) → Limits h
+  checks-limits (also t₂ (also t₁₄ (also t₃ (also t₄ (also t₅ none))))) =
+      let k = known-header h known code-small (fails (unknown-kind known h) t₂) in
+      let n = neither (ltb (h .n) 1) (ltb 16 (h .n)) t₁₄ in
+      let p = neither (ltb (h .p) (radix (h .code) / 2)) (ltb (radix (h .code) - 1) (h .p)) t₃ in
+      let f = neither (ltb (h .f) 4) (ltb 40 (h .f)) t₄ in
+      let m = neither (eqb (h .m) 0) (ltb 60 (h .m * digit-bits (h .code))) t₅ in
+      record {
+        kind-most = k .0;
+        code-most = k .1;
+        order-least = ltb-false _ _ (n .0);
+        order-most = ltb-false _ _ (n .1);
+        digit-least = ltb-false _ _ (p .0);
+        digit-most = ltb-false _ _ (p .1);
+        fraction-least = ltb-false _ _ (f .0);
+        fraction-most = ltb-false _ _ (f .1);
+        steps-least = above (h .m) (eqb-false (h .m) 0 (m .0));
+        steps-most = ltb-false _ _ (m .1);
+      }
+    where
+      above : (m : ℕ) → (m ≡ 0 → ⊥) → 1 ≤ m
+      above zero g = absurd (g refl)
+      above (suc m) g = omega arith
+
+  limits-checks : Limits h → None (header-checks-knowing known h)
+  limits-checks l =
+      also (both-fail _ _ (sym (unused-is (h .kind)) ∙ le-ltb 2 (h .kind) (l .kind-most)) (ap not (codes ∙ le-leb (h .code) 3 (l .code-most))))
+      (also (both-fail _ _ (le-ltb (h .n) 1 (l .order-least)) (le-ltb 16 (h .n) (l .order-most)))
+      (also (both-fail _ _ (le-ltb (h .p) (radix (h .code) / 2) (l .digit-least)) (le-ltb (radix (h .code) - 1) (h .p) (l .digit-most)))
+      (also (both-fail _ _ (le-ltb (h .f) 4 (l .fraction-least)) (le-ltb 40 (h .f) (l .fraction-most)))
+      (also (both-fail _ _ (ne-eqb (h .m) 0 (λ e. omega (arith, l .steps-least))) (le-ltb 60 (h .m * digit-bits (h .code)) (l .steps-most))) none))))
+
+  -- refusals 2, 14, 3, 4 and 5 all pass exactly when the limits hold
+  limits-when : (first-refusal (header-checks-knowing known h) ≡ 0) ↔ Limits h
+  limits-when =
+      ((λ e. checks-limits (accepted-exactly (header-checks-knowing known h) tt .0 e)), (λ l. accepted-exactly (header-checks-knowing known h) tt .1 (limits-checks l)))
+
+  -- a header that was read has an order of 1 to 16, and then 2 to 5 are enough
+  read-limits-when : 1 ≤ h .n → h .n ≤ 16 → (first-refusal (read-checks-knowing known h) ≡ 0) ↔ Limits h
+  read-limits-when a b = ((λ e. limits-when .0 (order e)), (λ l. un-order (limits-when .1 l)))
+    where
+      order : first-refusal (read-checks-knowing known h) ≡ 0 → first-refusal (header-checks-knowing known h) ≡ 0
+      order e = simp (le-ltb (h .n) 1 a, le-ltb 16 (h .n) b) e
+
+      un-order : first-refusal (header-checks-knowing known h) ≡ 0 → first-refusal (read-checks-knowing known h) ≡ 0
+      un-order e = simp (le-ltb (h .n) 1 a, le-ltb 16 (h .n) b) at e
+
+pub limits-exactly : LimitsExactly
+limits-exactly h = limits-when h (frame-code (h .code)) refl
+
+pub read-limits : (h : Header) → 1 ≤ h .n → h .n ≤ 16 → (first-refusal (read-checks h) ≡ 0) ↔ Limits h
+read-limits h = read-limits-when h (frame-code (h .code)) refl
+
+pub trace-limits : (h : Header) → (first-refusal (trace-header-checks h) ≡ 0) ↔ Limits h
+trace-limits h = limits-when h (trace-code (h .code)) refl
+
+pub trace-read-limits : (h : Header) → 1 ≤ h .n → h .n ≤ 16 → (first-refusal (trace-read-checks h) ≡ 0) ↔ Limits h
+trace-read-limits h = read-limits-when h (trace-code (h .code)) refl
+
+-- ---- what the limits give as plain numbers
+module _ (h : Header) where
+  -- every step of a job has room in a trace
+  pub last-in-trace : last-step h ≤ trace-steps h
+  last-in-trace = omega arith
+
+  module _ (l : Limits h) where
+    pub radix-most : radix (h .code) ≤ 16
+    radix-most = pow-mono {i = digit-bits (h .code)} {j = 4} (omega (arith, l .code-most))
+
+    pub radix-least : 2 ≤ radix (h .code)
+    radix-least = pow-mono {i = 1} {j = digit-bits (h .code)} (omega arith)
+
+    pub digit-positive : 1 ≤ h .p
+    digit-positive = omega (arith, l .digit-least, radix-least)
+
+    pub digit-small : h .p ≤ 15
+    digit-small = omega (arith, l .digit-most, radix-most)
+
+    pub unit-most : unit h ≤ 2 ^ 40
+    unit-most = pow-mono {i = h .f} {j = 40} (l .fraction-most)
+
+    pub unit-least : 16 ≤ unit h
+    unit-least = pow-mono {i = 4} {j = h .f} (l .fraction-least)
+
+    pub inner-bits-most : inner-bits h ≤ 40
+    inner-bits-most = l .fraction-most
+
+    pub inner-most : inner-unit h ≤ 2 ^ 40
+    inner-most = unit-most
+
+    pub inner-least : 16 ≤ inner-unit h
+    inner-least = unit-least
+
+    pub steps-small : h .m ≤ 60
+    steps-small = fewer (h .m) (h .code) (l .steps-most)
+
+    -- the steps of a job, and of a trace, have room in the arrays of a state and in 60 bits
+    pub last-bits : last-step h * digit-bits (h .code) ≤ 60
+    last-bits = l .steps-most
+
+    pub last-least : 1 ≤ last-step h
+    last-least = l .steps-least
+
+    pub last-small : last-step h ≤ 60
+    last-small = fewer (last-step h) (h .code) last-bits
+
+    pub trace-small : trace-steps h ≤ 60
+    trace-small = fewer (trace-steps h) (h .code) (l .steps-most)
+
+-- ---- a test by a quotient: x / b < m is x < m b
+pub ltb-quotient : (x b m : ℕ) → 0 < b → ltb (x / b) m ≡ ltb x (m * b)
+ltb-quotient x b m h = by-case (le-or-lt m (x / b))
+  where
+    by-case : (m ≤ x / b) ⊎ (x / b < m) → ltb (x / b) m ≡ ltb x (m * b)
+    by-case (inr l) = rw (lt-ltb (x / b) m l, lt-ltb x (m * b) (div-lt-iff-lt-mul {k = b} {x = x} {y = m} h .0 l))
+    by-case (inl l) = rw (le-ltb (x / b) m l, le-ltb x (m * b) (not-less (le-or-lt (m * b) x)))
+      where
+        not-less : (m * b ≤ x) ⊎ (x < m * b) → m * b ≤ x
+        not-less (inl g) = g
+        not-less (inr g) = absurd (omega (arith, div-lt-iff-lt-mul {k = b} {x = x} {y = m} h .1 g))
+
+pub radix-some : (code : ℕ) → 1 ≤ radix code
+radix-some code = pow-pos (digit-bits code)
+
+-- ---- how many numbers there are
+
+pub count-most : (kind : Kind) (n : ℕ) → n ≤ 16 → count-of kind n ≤ 272
+count-most polynomial n h = omega arith
+count-most rational n h = omega arith
+count-most system n h = let more : n + 1 ≤ 17 = omega arith in omega (arith, mul-le-mul h more)
+count-most unused n h = omega arith
+
+pub count-least : (k n : ℕ) → k ≤ 2 → 1 ≤ n → 0 < count-of (kind-of k) n
+count-least zero n l h = omega arith
+count-least (suc zero) n l h = omega arith
+count-least (suc (suc zero)) n l h = omega (arith, mul-le-mul h h)
+count-least (suc (suc (suc k))) n l h = absurd (omega arith)
