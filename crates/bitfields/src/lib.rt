@@ -35,14 +35,6 @@ fn narrow(x: u64) -> u8
     x as u8
 }
 
-// 2 to the n.
-pub fn pow2(n: usize) -> u64
-    requires { ⌜ n < 64 ⌝ }
-    ensures { λ r. ⌜ r ≡ 2 ^ n ⌝ }
-{
-    1u64 << (n as u64)
-}
-
 // The number that n bytes from the byte `at` on spell.
 pub fn read_bytes(s: &[u8], at: usize, n: usize) -> u64
     requires { ⌜ (at + n ≤ length (now s)) × (n ≤ 8) ⌝ }
@@ -62,7 +54,7 @@ fn read_window(s: &[u8], k: usize, n: usize, at: usize, w: usize) -> u64
     requires { ⌜ (k + n ≤ length (now s)) × (n ≤ 8) × (8 * k ≤ at) × (at + w ≤ 8 * (k + n)) × (0 < w) × (w ≤ 48) ⌝ }
     ensures { λ r. ⌜ r ≡ field (now (s .entry)) at w ⌝ }
 {
-    (read_bytes(s, k, n) >> ((8 * n - w - (at - 8 * k)) as u64)) % pow2(w)
+    (read_bytes(s, k, n) >> ((8 * n - w - (at - 8 * k)) as u64)) % integers::pow2(w)
 }
 
 // The first byte of a window of 8 bytes, of n, that holds the w bits at the bit `at`.
@@ -121,7 +113,7 @@ pub fn write_field(s: &mut [u8], at: usize, w: usize, v: u64)
     let r = at % 8;
     let n = (r + w + 7) / 8;
     let kept = wide(s[k]) >> ((8 - r) as u64);
-    let x = (kept * pow2(w) + v) * pow2(8 * n - (r + w));
+    let x = (kept * integers::pow2(w) + v) * integers::pow2(8 * n - (r + w));
     put_bytes(s, k, n, x);
 }
 
@@ -163,7 +155,7 @@ pub fn fits(z: i64, w: usize) -> bool
     requires { ⌜ (0 < w) × (w ≤ 48) ⌝ }
     ensures { λ r. ⌜ r ≡ fitsb w z ⌝ }
 {
-    magnitude(z) < pow2(w - 1)
+    magnitude(z) < integers::pow2(w - 1)
 }
 
 // The number that the w bits of x stand for: x, less 2 ^ w where its first bit is set. That is x and half of 2 ^ w, taken round, less the half:
@@ -172,8 +164,8 @@ pub fn to_signed(x: u64, w: usize) -> i64
     requires { ⌜ (0 < w) × (w ≤ 48) × (x < 2 ^ w) ⌝ }
     ensures { λ r. ⌜ r ≡ decode w x ⌝ }
 {
-    let half = pow2(w - 1);
-    signed((x + half) % pow2(w)) - signed(half)
+    let half = integers::pow2(w - 1);
+    signed((x + half) % integers::pow2(w)) - signed(half)
 }
 
 // The w bits that stand for z.
@@ -182,7 +174,7 @@ pub fn to_bits(z: i64, w: usize) -> u64
     ensures { λ r. ⌜ r ≡ encode w z ⌝ }
 {
     if z < 0 {
-        pow2(w) - 1 - magnitude(z)
+        integers::pow2(w) - 1 - magnitude(z)
     } else {
         magnitude(z)
     }
@@ -221,5 +213,5 @@ pub fn fill_is_zero(s: &[u8], b: usize) -> bool
     requires { ⌜ (bytes-for b ≡ length (now s)) × (0 < b) ⌝ }
     ensures { λ r. ⌜ r ≡ eqb (field (now (s .entry)) b (fill b)) 0 ⌝ }
 {
-    wide(s[s.len() - 1]) % pow2((8 - b % 8) % 8) == 0
+    wide(s[s.len() - 1]) % integers::pow2((8 - b % 8) % 8) == 0
 }

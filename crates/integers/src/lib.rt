@@ -1,7 +1,7 @@
 // Signed integers: the casts that code on them needs, each a function with its clean value as its promise, and in specs/ the laws
 // that proofs about them need. specs/Guide.antt shows the ring normaliser, linear inequalities and machine arithmetic at work, a line each.
 ghost use mathlib.Core.Path.{_≡_};
-ghost use Prim.Native.Nat.{_<_, _^_};
+ghost use Prim.Native.Nat.{_/_, _<_, _^_};
 ghost use lib.IntN.{pos, natAbs};
 ghost use lib.Signed.{_≤ℤ_};
 ghost use Rattle.integers.specs.Absolute.{Within};
@@ -35,4 +35,31 @@ pub fn to_unsigned(z: i64) -> u64
     ensures { λ r. ⌜ r ≡ natAbs z ⌝ }
 {
     z as u64
+}
+
+// 2 to the n.
+pub fn pow2(n: usize) -> u64
+    requires { ⌜ n < 64 ⌝ }
+    ensures { λ r. ⌜ r ≡ 2 ^ n ⌝ }
+{
+    1u64 << (n as u64)
+}
+
+// Half of 2 to the n; of 2 to the 0, which has no half, 0.
+pub fn half_pow2(n: usize) -> i64
+    requires { ⌜ n < 63 ⌝ }
+    ensures { λ r. ⌜ r ≡ pos (2 ^ n / 2) ⌝ }
+{
+    to_signed(pow2(n) / 2)
+}
+
+// |z|. The smallest i64 has no negation, so 1 is added last.
+pub fn magnitude(z: i64) -> u64
+    ensures { λ r. ⌜ r ≡ natAbs z ⌝ }
+{
+    if z < 0 {
+        to_unsigned(-1 - z) + 1
+    } else {
+        to_unsigned(z)
+    }
 }

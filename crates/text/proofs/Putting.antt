@@ -10,15 +10,12 @@ use native.Mathlib.Numerals.{add-one}
 use native.Mathlib.Omega.{arith}
 use borrow.Author.Tests.{lt-ltb, le-ltb}
 use lib.Dec.{ltb}
-use lib.IntN.{ℤ, pos, negsuc, natAbs, _-ℤ_}
+use lib.IntN.{ℤ, pos, negsuc, natAbs}
 use lib.ListN.{length, take, drop, set, getD, take-append-drop, length-append, drop-of-length-le}
 use lib.Seq.{append-snoc, set-split, length-take-le, drop-append-add, drop-drop, take-at, take-all, take-suc}
-use lib.Signed.{ltZ, mag}
-use mir.Syntax.{w64}
-use mir.Val.{SFits}
+use lib.Signed.{ltZ}
 use Rattle.integers.specs.Maximum.{le-or-lt}
 use Rattle.integers.specs.Order.{zarith}
-use Rattle.integers.specs.Parts.{eq-by, differences}
 use Rattle.text.specs.Text.{digit-char, decimal-within, decimal, signed-decimal, with-text, Room, Put}
 
 -- ---- text in a buffer
@@ -171,18 +168,6 @@ module _ (out : List ℕ) (at : ℕ) (z : ℤ) (n : ℕ) (e : n ≡ natAbs z) wh
 
     pub put-nonnegative : {after : List ℕ} {end : ℕ} → Put out at (decimal n) after end → Put out at (signed-decimal z) after end
     put-nonnegative p = rw (signed-nonnegative z h, ← e) p
-
--- of a negative number, as the code takes it
-module _ (z : ℤ) (h : ltZ z (pos 0) ≡ true) where
-  pub one-below : (negsuc 0 -ℤ z ≡ pos (mag z)) × (mag z + 1 ≡ natAbs z)
-  one-below = by-sign z h
-    where
-      by-sign : (z : ℤ) → ltZ z (pos 0) ≡ true → (negsuc 0 -ℤ z ≡ pos (mag z)) × (mag z + 1 ≡ natAbs z)
-      by-sign (pos n) h = absurd (omega (zarith, h))
-      by-sign (negsuc n) h = (eq-by (search differences) (search differences) (omega arith), omega arith)
-
-  pub one-below-fits : SFits w64 z → SFits w64 (negsuc 0 -ℤ z)
-  one-below-fits f = rw (one-below .0) (record { sfits = f .sfits })
 
 -- ---- the bytes of s, of which the first i are put
 

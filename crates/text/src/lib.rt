@@ -3,7 +3,6 @@ use integers::to_unsigned;
 ghost use mathlib.Core.Path.{_≡_};
 ghost use mathlib.Core.List.{[], _∷_};
 ghost use Prim.Native.Nat.{_+_, _<_};
-ghost use lib.IntN.{natAbs};
 ghost use Rattle.text.specs.Text.{decimal, signed-decimal, Room, Put};
 
 // One byte.
@@ -34,23 +33,12 @@ pub fn put_decimal(out: &mut [u8], at: usize, n: u64) -> usize
     put_byte(out, last, digit_char(n % 10))
 }
 
-// |z|. The smallest i64 has no negation, so 1 is added last.
-fn magnitude(z: i64) -> u64
-    ensures { λ r. ⌜ r ≡ natAbs z ⌝ }
-{
-    if z < 0 {
-        to_unsigned(-1 - z) + 1
-    } else {
-        to_unsigned(z)
-    }
-}
-
 // A number with a sign in decimal.
 pub fn put_signed(out: &mut [u8], at: usize, z: i64) -> usize
     requires { ⌜ Room (now out) at (signed-decimal z) ⌝ }
     ensures { λ r. ⌜ Put (now (out .entry)) at (signed-decimal z) (now (out .exit)) r ⌝ }
 {
-    let n = magnitude(z);
+    let n = integers::magnitude(z);
     if z < 0 {
         let from = put_byte(out, at, b'-');
         return put_decimal(out, from, n);

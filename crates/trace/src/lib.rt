@@ -100,7 +100,7 @@ fn read_eight(b: &[u8], p: usize, c: usize) -> u64
     requires { ⌜ (p + 5 * c ≤ 8 * length (now b)) × (0 < c) × (c ≤ 8) ⌝ }
     ensures { λ r. ⌜ r ≡ field (now (b .entry)) p (5 * c) * 2 ^ (5 * (8 - c)) ⌝ }
 {
-    bitfields::read_field(b, p, 5 * c) * bitfields::pow2(5 * (8 - c))
+    bitfields::read_field(b, p, 5 * c) * integers::pow2(5 * (8 - c))
 }
 
 // Reads the digits of one step, n of them from the bit p on, and stores them from the place `at` on, where zeros stand. Eight are always

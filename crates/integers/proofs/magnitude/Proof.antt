@@ -7,10 +7,10 @@ use lib.Signed.{ltZ, mag}
 use mir.Syntax.{w64}
 use mir.Val.{toZ, ofZ}
 use mir.Facts.{toZ-ofZ}
 use Rattle.integers.specs.Order.{zarith}
-use Rattle.text.proofs.Putting.{one-below, one-below-fits}
-use Rattle.text.proofs.magnitude.Statement.{statement}
-use Rattle.text.proofs.magnitude.Tie as tie
+use Rattle.integers.proofs.Below.{one-below, one-below-fits}
+use Rattle.integers.proofs.magnitude.Statement.{statement}
+use Rattle.integers.proofs.magnitude.Tie as tie
 
 negative : (c : tie.Then1) → ltZ (c .before .args .z) (pos 0) ≡ true
 negative c = rw (toZ-ofZ {w = w64} (c .before .fits .z)) at (c .if1 .taken)

@@ -1,9 +1,9 @@
--- `bitfields::pow2` meets its contract: for n below 64 nothing is shifted out. Assumes nothing.
+-- `pow2` meets its contract: for n below 64 nothing is shifted out. Assumes nothing.
 use native.Mathlib.Nat.{mod-eq-of-lt, one-mul}
 use borrow.Author.Needs.{needs}
 use lib.Pow.{pow-lt}
-use Rattle.bitfields.proofs.pow2.Statement.{statement}
-use Rattle.bitfields.proofs.pow2.Tie as tie
+use Rattle.integers.proofs.pow2.Statement.{statement}
+use Rattle.integers.proofs.pow2.Tie as tie
 
 shl-result : tie.Need-shl-result
 shl-result c = search needs
