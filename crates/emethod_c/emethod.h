@@ -1,15 +1,23 @@
-/* The E-method evaluator for host tools in C and other languages: link libemethod_c.a, which `rt staticlib emethod_c` writes.
+/* The E-method evaluator for host tools in C and C++ on x86-64 Linux: link libemethod_c.a, which
+ * `rt staticlib emethod_c` writes. docs/FORMAT.md describes frames, traces and every refusal in full;
+ * example.c beside this file packs a frame, evaluates it and prints its readings.
  *
- * Every call takes numbers and lent memory and answers one number that carries three:
+ * Every call takes numbers and lent memory, and answers one number that carries three:
  *
  *     answer = refusal + 256 * row + 65536 * count
  *
- * refusal   0, or the number that document 01 gives the reason
- * row       with refusals 8 and 9 the first such row, from 1; else 0
+ * refusal   0, or why the call was refused: one of EM_REFUSED_..
+ * row       with EM_REFUSED_HEAVY and EM_REFUSED_RIGHT_SIDE the first such row, from 1; else 0
  * count     what each call says below; 0 when refused
  *
- * No call asks anything of its arguments beyond memory that is there: what cannot be done is refused, and a refusal changes no lent memory.
- * Memory past what a call writes keeps its values.
+ * What cannot be done is refused, whatever the numbers and bytes are, and a refusal changes no lent memory.
+ * Memory past what a call writes keeps its values too. No call allocates, and none keeps anything: what is
+ * lent is used during the call alone. Calls may be made at the same time where none writes memory that
+ * another uses.
+ *
+ * What a call asks of its caller is memory that is there for the length given with it, in elements of its
+ * type. A pointer may be null where its length is 0. The memory that a call writes may not overlap the memory
+ * that it reads: nothing is promised of such a call.
  */
 #ifndef EMETHOD_H
 #define EMETHOD_H
@@ -17,34 +25,84 @@
 #include <stddef.h>
 #include <stdint.h>
 
+#ifdef __cplusplus
+extern "C" {
+#endif
+
 #define EM_REFUSAL(answer) ((unsigned)((answer) % 256))
 #define EM_ROW(answer) ((unsigned)((answer) / 256 % 256))
 #define EM_COUNT(answer) ((size_t)((answer) / 65536))
 
+/* Room that is always enough, in elements. */
+#define EM_READINGS 16      /* readings: one a row */
+#define EM_NUMBERS 272      /* numbers of a frame: a system of order 16 */
+#define EM_FRAME_BYTES 1431 /* the longest frame */
+#define EM_TRACE_BYTES 604  /* the longest trace */
+#define EM_TRACE_WORDS 967  /* the words of the longest trace: 7, and 60 steps of 16 digits */
+
+enum em_kind {
+    EM_POLYNOMIAL = 0,
+    EM_RATIONAL = 1,
+    EM_SYSTEM = 2
+};
+
+/* In the words below r is the radix, n the order, p the largest digit, f the fraction bits, m the steps of a
+ * job, and k the steps made. */
+enum em_refusal {
+    EM_ACCEPTED = 0,
+    EM_REFUSED_SHORT = 1,      /* fewer than 3 bytes; a trace: fewer than 4 */
+    EM_REFUSED_KIND = 2,       /* kind 3; from em_write_frame a kind above 2 or a radix code above 3 */
+    EM_REFUSED_P = 3,          /* p outside r/2 to r - 1 */
+    EM_REFUSED_F = 4,          /* f outside 4 to 40 */
+    EM_REFUSED_M = 5,          /* m is 0, or m * log2(r) is above 60 */
+    EM_REFUSED_LENGTH = 6,     /* a length other than the fields demand */
+    EM_REFUSED_FILL = 7,       /* a filling bit after the last number or digit is 1 */
+    EM_REFUSED_HEAVY = 8,      /* a row is too heavy: its |entries| of I - A add up to more than
+                                  (2p - r + 1) / (2rp) */
+    EM_REFUSED_RIGHT_SIDE = 9, /* a right side is above 1/2 in absolute value */
+    EM_REFUSED_K = 10,         /* a trace: k is above m */
+    EM_REFUSED_DIGIT = 11,     /* a trace: a digit is above p in absolute value */
+    EM_REFUSED_COUNT = 12,     /* em_write_frame: another count of numbers than kind and n demand */
+    EM_REFUSED_NUMBER = 13,    /* em_write_frame: a number does not fit f + 2 bits */
+    EM_REFUSED_N = 14,         /* em_write_frame: n outside 1 to 16 */
+    EM_REFUSED_ROOM = 23       /* lent memory too short for what is to be written */
+};
+
 /* Loads a frame and lets it go. count: how many numbers it holds. Refused by 1 to 9. */
 uint64_t em_check_frame(const uint8_t *frame, size_t length);
 
-/* Loads a frame, advances it by the budget, and writes a reading for each row. count: the steps made. Refused by 1 to 9, 23. With budget 0 no step is
- * made and nothing is refused: each reading is 0. */
+/* Loads a frame, makes as many of its m steps as the budget allows, and writes n readings, row by row.
+ * count: the steps made, k. The reading Y of a row stands for Y / r^k: in every solution of all rows this
+ * row's value is at most p / ((r - 1) * r^k) away from it. Row 1 of a curve is the curve's value at x.
+ * Refused by 1 to 9, 23. A budget of 0 is not refused by 22: k is 0, and so is each reading. */
 uint64_t em_evaluate(const uint8_t *frame, size_t length, uint64_t budget, int64_t *readings, size_t room);
 
-/* Writes a frame. count: its bytes. Refused by 2, 14, 3, 4, 5, 12, 13, 8, 9, 23. */
+/* Writes a frame. count: its bytes.
+ *
+ * kind   0 to 2, as em_kind        f   4 to 40
+ * code   0 to 3 for r 2, 4, 8, 16  n   1 to 16
+ * p      r/2 to r - 1              m   1 or more, with m * log2(r) at most 60
+ *
+ * Each number is -2^(f + 1) to 2^(f + 1) - 1 and stands for itself divided by 2^f. Their order:
+ * polynomial   x, p_0 to p_(n-1)                          n + 1 numbers
+ * rational     x, p_0 to p_(n-1), q_1 to q_(n-1); q_0 = 1   2 * n numbers
+ * system       row by row a_i1 to a_in, then b_i          n * (n + 1) numbers
+ *
+ * Refused by 2, 14, 3, 4, 5, 12, 13, 8, 9, 23. */
 uint64_t em_write_frame(size_t kind, size_t code, size_t p, size_t f, size_t n, size_t m,
                         const int64_t *numbers, size_t length, uint8_t *out, size_t room);
 
-/* Loads a frame, advances it by the budget, and writes its trace. count: the trace's bytes. Refused by 1 to 9, 23. With budget 0 it is the trace after
- * 0 steps, of 4 bytes. */
+/* Loads a frame, makes as many of its m steps as the budget allows, and writes its trace. count: the trace's
+ * bytes. Refused by 1 to 9, 23. A budget of 0 is not refused by 22: the trace after 0 steps, of 4 bytes, is
+ * written. */
 uint64_t em_write_trace(const uint8_t *frame, size_t length, uint64_t budget, uint8_t *out, size_t room);
 
-/* Reads a trace into words: kind, radix code, p, f, n, m, k, then the digits step by step and in a step row by row.
- * count: the words. Refused by 1 to 5, 10, 6, 7, 11, 23. */
+/* Reads a trace into words: kind, code, p, f, n, m and k, then the digits step by step and in a step row by
+ * row. count: the words, 7 + n * k. Refused by 1 to 5, 10, 6, 7, 11, 23. */
 uint64_t em_read_trace(const uint8_t *trace, size_t length, int64_t *words, size_t room);
 
-/* For measurements: after a load, the entry of G in a row and a column (both from 0), or past column 15 the residual of the row; 0 past row 15, and where
- * the frame is refused. */
-int64_t em_probe_load(const uint8_t *frame, size_t length, size_t row, size_t column);
-
-/* For measurements: reads a trace once and writes it back `times` times. count: the trace's bytes, 0 where `times` is 0. Refused by 1 to 5, 10, 6, 7, 11, 23. */
-uint64_t em_rewrite_trace(const uint8_t *trace, size_t length, uint64_t times, uint8_t *out, size_t room);
+#ifdef __cplusplus
+}
+#endif
 
 #endif

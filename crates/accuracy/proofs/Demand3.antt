@@ -5,34 +5,39 @@ use Prim.Native.Nat.{ℕ, zero, suc, _+_, _^_, _<_, _≤_}
 use native.Mathlib.Omega.{arith}
 use lib.IntN.{ℤ, pos, _+ℤ_, _-ℤ_, _*ℤ_}
 use lib.ListN.{length, drop, List·getD-append}
-use Rattle.integers.specs.Flat.{at, list-from, length-list-from, getD-list-from}
-use Rattle.integers.specs.Product.{dot, weight, dot-ext}
+use Rattle.integers.specs.Flat.{at, list-from}
+use Rattle.integers.proofs.Flat.{length-list-from, getD-list-from}
+use Rattle.integers.specs.Sum.{dot, weight}
+use Rattle.integers.proofs.Product.{dot-ext}
 use Rattle.job.specs.Header.{radix, unit}
 use Rattle.job.specs.Kind.{kind-of}
 use Rattle.job.specs.Limits.{Limits}
 use Rattle.job.proofs.Limits.{radix-least, unit-least, inner-least, digit-positive, last-small}
 use Rattle.job.specs.Rules.{last-step, inner-unit, bound-over, bound-under}
-use Rattle.job.specs.System.{matrix-of, right-side-of}
+use Rattle.system.specs.System.{matrix-of, right-side-of}
 use Rattle.job.specs.declared.Header.{Header}
-use Rattle.frame.specs.Frame.{frame-refusal, header-of, frame-numbers}
-use Rattle.frame.specs.Theorems.{accepted-frame}
-use Rattle.frame.specs.Valid.{Valid}
+use Rattle.frame.specs.Frame.{frame-refusal, frame-numbers}
+use Rattle.header.specs.Header.{header-of}
+use Rattle.frame.proofs.Valid.{accepted-frame}
+use Rattle.frame.specs.Theorems.{ValidJob}
 use Rattle.recurrence.specs.Selection.{select}
 use Rattle.recurrence.specs.Light.{LightRows}
-use Rattle.recurrence.specs.Recurrence.{reading, steps-run}
-use Rattle.recurrence.specs.Theorems.{identity, select-distance, short}
-use Rattle.curve.specs.Value.{kind-value}
-use Rattle.state.specs.Digits.{digits-of}
-use Rattle.state.specs.State.{fresh}
+use Rattle.recurrence.specs.Recurrence.{reading}
+use Rattle.recurrence.proofs.Theorems.{steps-run, identity, select-distance, short}
+use Rattle.curve.proofs.Value.{kind-value}
+use Rattle.state.specs.State.{digits-of, fresh}
 use Rattle.state.specs.declared.State.{State}
-use Rattle.evaluator.specs.Evaluator.{loaded, steps, least, job-digit, job-residual, state-reading, readings-list, readings-refusal}
-use Rattle.state.proofs.Sound.{start-kept}
-use Rattle.evaluator.proofs.Kept.{light-row, loaded-passes}
+use Rattle.evaluator.specs.Evaluator.{loaded, smaller, state-reading, readings-list, readings-refusal}
+use Rattle.stepping.specs.Steps.{steps, job-digit, job-residual, Follows}
+use Rattle.state.proofs.PassesLimits.{start-kept}
+use Rattle.stepping.proofs.Kept.{light-row}
+use Rattle.evaluator.proofs.Kept.{loaded-passes}
 use Rattle.evaluator.proofs.Theorems.{refused-readings}
-use Rattle.evaluator.proofs.Follow.{Follows, steps-header, steps-k, fresh-follows, follows-steps}
+use Rattle.stepping.proofs.Steps.{steps-header, steps-k}
+use Rattle.stepping.proofs.Follow.{fresh-follows, follows-steps}
 use Rattle.accuracy.specs.Calls.{Call, budgets}
-use Rattle.accuracy.specs.Accuracy.{after, Accurate}
-use Rattle.accuracy.proofs.Runs.{least-most, run-is}
+use Rattle.accuracy.specs.Accuracy.{after, Accurate, EveryFrameAccurate}
+use Rattle.accuracy.proofs.Runs.{smaller-within, run-is}
 
 -- ---- laws over plain numbers
 
@@ -93,7 +98,7 @@ module _ (frame : List ℕ) (ok : frame-refusal frame ≡ 0) where
   B = right-side-of h v
 
   -- what acceptance says of the header, the rows and the right-hand sides
-  accepted : Valid h v
+  accepted : ValidJob h v
   accepted = accepted-frame frame .0 ok .valid
 
   limits : Limits h
@@ -107,7 +112,7 @@ module _ (frame : List ℕ) (ok : frame-refusal frame ≡ 0) where
   unfolding loaded steps
   loaded-is = rw ok
 
-  run-to : (calls : List Call) → after frame calls ≡ at-step (least (last-step h) (budgets calls))
+  run-to : (calls : List Call) → after frame calls ≡ at-step (smaller (last-step h) (budgets calls))
   unfolding fresh
   run-to calls =
       let e : 0 + budgets calls ≡ budgets calls = omega arith in
@@ -143,10 +148,10 @@ module _ (frame : List ℕ) (ok : frame-refusal frame ≡ 0) where
         (identity (steps-run n r (inner-unit h) (select (h .p) (inner-unit h)) G B) j i l)
 
   -- the whole statement of the j-th state
-  pub accurate : (calls : List Call) → Accurate frame calls
-  accurate calls =
-      let j : ℕ = least (last-step h) (budgets calls) in
-      let few-j : j ≤ last-step h = least-most (last-step h) (budgets calls) in
+  accurate-after : (calls : List Call) → Accurate frame calls
+  accurate-after calls =
+      let j : ℕ = smaller (last-step h) (budgets calls) in
+      let few-j : j ≤ last-step h = smaller-within (last-step h) (budgets calls) in
       record {
         steps-made = rw (run-to calls) (k-is j few-j);
         digits = λ t i a b c. rw (run-to calls) (held-digits G B (at-step j) h j (header-is j few-j) (k-is j few-j) (holds j few-j) t i (rw (run-to calls, k-is j few-j) at b) c);
@@ -156,9 +161,13 @@ module _ (frame : List ℕ) (ok : frame-refusal frame ≡ 0) where
         curve = λ a. kind-value (kind-of (h .kind)) n (unit h) v a (omega (arith, unit-least h limits)) (limits .order-least)
             (λ i l. short r (h .p) (unit h) bound-over bound-under (weight n (G i)) (radix-least h limits) (digit-positive h limits) (limits .digit-most) (omega arith) (omega arith) (rows .rows i l));
         handed-out = λ before rest out e a i c.
-            let b : ℕ = least (last-step h) (budgets before) in
-            let few-b : b ≤ last-step h = least-most (last-step h) (budgets before) in
+            let b : ℕ = smaller (last-step h) (budgets before) in
+            let few-b : b ≤ last-step h = smaller-within (last-step h) (budgets before) in
             rw (run-to before) (held-out G B (at-step b) h b (header-is b few-b) (k-is b few-b) (holds b few-b) out (rw (run-to before) at a) i c);
         nothing-out = λ before rest out e a. refused-readings (after frame before) out a;
         identity = λ i c. rw (run-to calls, k-is j few-j) (state-identity j few-j i c);
       }
+
+-- demand 3
+pub accurate : EveryFrameAccurate
+accurate = accurate-after

@@ -1,32 +1,32 @@
--- Document 01's case A for the examples: its frame, lists of calls on it, and what the definitions give of it
--- by computation, each thing once.
+-- Document 01's case A for the examples: lists of calls on its frame, and what the definitions give of it by
+-- computation, each thing once. And the frame of case D, which is refused.
 use mathlib.Core.Path.{_≡_, refl, ap}
 use mathlib.Core.List.{List, [], _∷_, map}
 use Prim.Native.Nat.{ℕ, zero, suc, _<_}
 use native.Mathlib.Omega.{arith}
 use lib.IntN.{ℤ, pos, negsuc, _-ℤ_, _*ℤ_}
 use Rattle.integers.specs.Flat.{at, list-from, stores}
-use Rattle.integers.specs.Product.{dot, weight}
-use Rattle.integers.specs.Sum.{sum, total}
-use Rattle.bitfields.specs.Layout.{field, number, bits, run}
+use Rattle.integers.specs.Sum.{dot, weight, sum, total}
+use Rattle.bitfields.specs.Layout.{field, number, bits, values-from}
 use Rattle.bitfields.specs.Twos.{decode}
-use Rattle.job.specs.Rows.{first-row-from}
-use Rattle.job.specs.System.{curve-entry, matrix, right-side}
+use Rattle.system.specs.Rows.{first-row-from}
+use Rattle.system.specs.System.{curve-entry, matrix, right-side}
 use Rattle.frame.specs.Frame.{frame-checks, frame-refusal}
-use Rattle.recurrence.specs.Flat.{stepped-digits, stepped-residuals}
+use Rattle.stepping.specs.Steps.{stepped-digits, stepped-residuals, steps, one-step}
 use Rattle.recurrence.specs.Recurrence.{shifted, next-digit, next-residual, digit, residual, reading}
 use Rattle.recurrence.specs.Selection.{select, digit-size}
-use Rattle.state.specs.Digits.{beyond}
-use Rattle.state.specs.State.{fresh, breaks-limit}
-use Rattle.evaluator.specs.Evaluator.{loaded, advanced, advance-checks, steps-made, steps, one-step, readings-checks, readings-refusal, readings-list}
+use Rattle.state.specs.State.{beyond, fresh, breaks-limit}
+use Rattle.evaluator.specs.Evaluator.{loaded, advanced, advance-checks, steps-made, readings-checks, readings-refusal, readings-list}
 use Rattle.accuracy.specs.Calls as calls
 use Rattle.accuracy.specs.Calls.{Call, advance, readings}
 use Rattle.accuracy.specs.Accuracy.{ExactValues, G, b, after, true-digit}
+use Rattle.evaluator.proofs.ExamplePastOrder.{frame-A}
 
 -- ---- A: polynomial, x 4, p 3 and 8, over 16; four steps
 
-unfoldable pub frame-A : List ℕ
-frame-A = 1 ∷ 16 ∷ 68 ∷ 16 ∷ 50 ∷ 0 ∷ []
+-- D: x 5 in A
+unfoldable pub frame-D : List ℕ
+frame-D = 1 ∷ 16 ∷ 68 ∷ 20 ∷ 50 ∷ 0 ∷ []
 
 -- all steps, a single one, and two
 unfoldable pub calls-A : List Call
@@ -39,8 +39,8 @@ unfoldable pub two-steps-A : List Call
 two-steps-A = advance 2 ∷ []
 
 -- three words lent
-abbrev pub words-A : List ℤ
-words-A = pos 7 ∷ pos 7 ∷ pos 7 ∷ []
+abbrev pub lent-A : List ℤ
+lent-A = pos 7 ∷ pos 7 ∷ pos 7 ∷ []
 
 -- two steps, then readings and an advance that are refused
 unfoldable pub middle-A : List Call
@@ -48,22 +48,22 @@ middle-A = advance 2 ∷ readings [] ∷ advance 0 ∷ []
 
 -- then readings to the three words, and the other steps
 unfoldable pub end-A : List Call
-end-A = advance 2 ∷ readings [] ∷ advance 0 ∷ readings words-A ∷ advance 9 ∷ []
+end-A = advance 2 ∷ readings [] ∷ advance 0 ∷ readings lent-A ∷ advance 9 ∷ []
 
 -- then readings to a single word, which are refused
 unfoldable pub mixed-A : List Call
-mixed-A = advance 2 ∷ readings [] ∷ advance 0 ∷ readings words-A ∷ advance 9 ∷ readings (pos 9 ∷ []) ∷ []
+mixed-A = advance 2 ∷ readings [] ∷ advance 0 ∷ readings lent-A ∷ advance 9 ∷ readings (pos 9 ∷ []) ∷ []
 
 -- ---- what the definitions give
 
 pub accepted-A : frame-refusal frame-A ≡ 0
-unfolding frame-A frame-checks field number bits run decode curve-entry matrix right-side first-row-from weight total
+unfolding frame-A frame-checks field number bits values-from decode curve-entry matrix right-side first-row-from weight total
 accepted-A = refl
 
 -- the digits of row 1 and of row 2, step by step
 pub digits-A : (map (λ j. true-digit frame-A j 0) (1 ∷ 2 ∷ 3 ∷ 4 ∷ []) ≡ pos 0 ∷ pos 1 ∷ pos 1 ∷ negsuc 0 ∷ [])
     × (map (λ j. true-digit frame-A j 1) (1 ∷ 2 ∷ 3 ∷ 4 ∷ []) ≡ pos 1 ∷ pos 0 ∷ pos 0 ∷ pos 0 ∷ [])
-unfolding frame-A field number bits run decode curve-entry matrix right-side dot sum shifted next-digit next-residual digit residual select digit-size
+unfolding frame-A field number bits values-from decode curve-entry matrix right-side dot sum shifted next-digit next-residual digit residual select digit-size
 digits-A = (refl, refl)
 
 -- the t-th of them, from 0
@@ -78,7 +78,7 @@ unfoldable pub values-A : ℕ → ℤ
 values-A = at (pos 5 ∷ pos 8 ∷ [])
 
 pub exact-A : ExactValues frame-A values-A 16
-unfolding frame-A values-A field number bits run decode curve-entry matrix right-side dot sum
+unfolding frame-A values-A field number bits values-from decode curve-entry matrix right-side dot sum
 exact-A = record { solves = solves-row }
   where
     solves-row : (i : ℕ) → i < 2 → pos 16 *ℤ values-A i -ℤ dot 2 (G frame-A i) values-A ≡ pos 16 *ℤ b frame-A i
@@ -95,5 +95,5 @@ pub readings-A : (x y w : ℤ) →
     × (readings-refusal (after frame-A calls-A) 3 ≡ 0)
     × (after frame-A calls-A .k ≡ 4)
     × (readings-list (after frame-A calls-A) (x ∷ y ∷ w ∷ []) ≡ pos 5 ∷ pos 8 ∷ w ∷ [])
-unfolding frame-A calls-A two-steps-A middle-A end-A calls.run loaded advanced advance-checks steps-made steps one-step readings-checks readings-list fresh breaks-limit beyond frame-checks field number bits run decode curve-entry matrix right-side first-row-from weight total dot sum list-from stores stepped-digits stepped-residuals shifted next-digit next-residual select digit-size reading
+unfolding frame-A calls-A two-steps-A middle-A end-A calls.run loaded advanced advance-checks steps-made steps one-step readings-checks readings-list fresh breaks-limit beyond frame-checks field number bits values-from decode curve-entry matrix right-side first-row-from weight total dot sum list-from stores stepped-digits stepped-residuals shifted next-digit next-residual select digit-size reading
 readings-A x y w = (refl, refl, refl, refl, refl, refl)

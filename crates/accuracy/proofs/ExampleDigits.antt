@@ -10,7 +10,8 @@ use Rattle.bitfields.specs.Layout.{field, number, bits}
 use Rattle.recurrence.specs.Recurrence.{reading}
 use Rattle.accuracy.specs.Calls.{Call, budgets}
 use Rattle.accuracy.specs.Accuracy.{Accurate, after, held-digit, true-digit, Y}
-use Rattle.accuracy.proofs.ExampleA.{frame-A, calls-A, one-step-A, two-steps-A, digits-A}
+use Rattle.evaluator.proofs.ExamplePastOrder.{frame-A}
+use Rattle.accuracy.proofs.ExampleA.{calls-A, one-step-A, two-steps-A, digits-A}
 
 module _ (holds : (calls : List Call) → Accurate frame-A calls) where
   -- the budgets 1, 0 and 9 make four steps, since the fourth is the last

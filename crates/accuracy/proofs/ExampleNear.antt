@@ -8,12 +8,13 @@ use native.Mathlib.Omega.{arith}
 use lib.IntN.{ℤ, pos, natAbs, _-ℤ_, _*ℤ_}
 use lib.Signed.{_<ℤ_}
 use Rattle.integers.specs.Sum.{sum}
-use Rattle.bitfields.specs.Layout.{field, number, bits, run}
+use Rattle.bitfields.specs.Layout.{field, number, bits, values-from}
 use Rattle.bitfields.specs.Twos.{decode}
 use Rattle.curve.specs.Curve.{numerator-value, denominator-value, has-value}
 use Rattle.accuracy.specs.Calls.{Call}
 use Rattle.accuracy.specs.Accuracy.{Accurate, ExactValues, kind, Y}
-use Rattle.accuracy.proofs.ExampleA.{frame-A, calls-A, values-A, exact-A}
+use Rattle.evaluator.proofs.ExamplePastOrder.{frame-A}
+use Rattle.accuracy.proofs.ExampleA.{calls-A, values-A, exact-A}
 use Rattle.accuracy.proofs.ExampleDigits.{steps-A, spelt-A}
 
 -- it is a curve
@@ -34,12 +35,12 @@ module _ (holds : (calls : List Call) → Accurate frame-A calls) where
 
   -- row 1's exact value is 80/256, in every solution
   pub curve-A : (N : ℕ → ℤ) (D : ℕ) → ExactValues frame-A N D → pos 256 *ℤ N 0 ≡ pos 80 *ℤ pos D
-  unfolding frame-A field number bits run decode numerator-value denominator-value sum
+  unfolding frame-A field number bits values-from decode numerator-value denominator-value sum
   curve-A N D exact = holds calls-A .curve polynomial-A .value N D exact
 
   -- the denominator 256 is above 0
   pub fraction-A : pos 0 <ℤ pos 256
-  unfolding frame-A field number bits run decode denominator-value sum
+  unfolding frame-A field number bits values-from decode denominator-value sum
   fraction-A = holds calls-A .curve polynomial-A .denominator-positive
 
   -- and there is such a solution: one with a D above 0, in which 256 N is 80 D

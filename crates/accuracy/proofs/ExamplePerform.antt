@@ -7,24 +7,23 @@ use native.Mathlib.Omega.{arith}
 use lib.IntN.{ℤ, pos}
 use lib.ListN.{length}
 use Rattle.integers.specs.Flat.{at, list-from, stores}
-use Rattle.integers.specs.Product.{dot, weight}
-use Rattle.integers.specs.Sum.{sum, total}
-use Rattle.bitfields.specs.Layout.{field, number, bits, run}
+use Rattle.integers.specs.Sum.{dot, weight, sum, total}
+use Rattle.bitfields.specs.Layout.{field, number, bits, values-from}
 use Rattle.bitfields.specs.Twos.{decode}
-use Rattle.job.specs.Rows.{first-row-from}
-use Rattle.job.specs.System.{curve-entry, matrix, right-side}
+use Rattle.system.specs.Rows.{first-row-from}
+use Rattle.system.specs.System.{curve-entry, matrix, right-side}
 use Rattle.frame.specs.Frame.{frame-checks}
-use Rattle.recurrence.specs.Flat.{stepped-digits, stepped-residuals}
+use Rattle.stepping.specs.Steps.{stepped-digits, stepped-residuals, steps, one-step}
 use Rattle.recurrence.specs.Recurrence.{digit, residual, shifted, next-digit, next-residual, reading}
 use Rattle.recurrence.specs.Selection.{select, digit-size}
-use Rattle.state.specs.Digits.{beyond}
-use Rattle.state.specs.State.{fresh, breaks-limit}
-use Rattle.evaluator.specs.Evaluator.{loaded, advanced, advance-checks, steps-made, steps, one-step, readings-checks, readings-list}
+use Rattle.state.specs.State.{beyond, fresh, breaks-limit}
+use Rattle.evaluator.specs.Evaluator.{loaded, advanced, advance-checks, steps-made, readings-checks, readings-list}
 use Rattle.accuracy.specs.Calls as calls
 use Rattle.accuracy.specs.Calls.{Call, advance, readings, budgets}
-use Rattle.accuracy.specs.Perform.{room-of, calls-of, place, parts-after, Untouched, Performed}
+use Rattle.accuracy.specs.Perform.{room-of, calls-of, room-of-all, parts-after, Untouched, Performed}
 use Rattle.accuracy.specs.declared.Evaluated.{Evaluated}
-use Rattle.accuracy.proofs.ExampleA.{frame-A, accepted-A}
+use Rattle.evaluator.proofs.ExamplePastOrder.{frame-A}
+use Rattle.accuracy.proofs.ExampleA.{accepted-A, frame-D}
 
 -- ---- A: advances by 2, 0 and 9, and readings of no word, of three and of two; by 0 and of no word are
 -- refused
@@ -40,16 +39,16 @@ given-A = pos 70 ∷ pos 71 ∷ pos 72 ∷ pos 73 ∷ pos 74 ∷ pos 75 ∷ []
 before-A : List Call
 before-A = advance 2 ∷ readings [] ∷ readings (pos 70 ∷ pos 71 ∷ pos 72 ∷ []) ∷ advance 0 ∷ advance 9 ∷ []
 
-calls-A : calls-of words-A given-A ≡ before-A ++ (readings (pos 73 ∷ pos 74 ∷ []) ∷ [])
+named-A : calls-of words-A given-A ≡ before-A ++ (readings (pos 73 ∷ pos 74 ∷ []) ∷ [])
 unfolding words-A given-A before-A calls-of
-calls-A = refl
+named-A = refl
 
 -- no reading goes to the third word, which is the last of a part of three
 third-A : Untouched 2 (calls-of words-A given-A) 2
-unfolding before-A place
-third-A before rest part e = by-split before rest part (sym calls-A ∙ e)
+unfolding before-A room-of-all
+third-A before rest part e = by-split before rest part (sym named-A ∙ e)
   where
-    by-split : (before rest : List Call) (part : List ℤ) → before-A ++ (readings (pos 73 ∷ pos 74 ∷ []) ∷ []) ≡ before ++ (readings part ∷ rest) → 2 ≤ length part → place before ≤ 2 → 2 < place before + 2 → ⊥
+    by-split : (before rest : List Call) (part : List ℤ) → before-A ++ (readings (pos 73 ∷ pos 74 ∷ []) ∷ []) ≡ before ++ (readings part ∷ rest) → 2 ≤ length part → room-of-all before ≤ 2 → 2 < room-of-all before + 2 → ⊥
     by-split [] rest part e m a b = let z : _≡_ {A = ℕ} 0 1 = cc in omega arith
     by-split (c ∷ []) rest part e m a b = let z : _≡_ {A = List ℤ} [] part = cc in omega (arith, ap length z)
     by-split (c ∷ d ∷ []) rest part e m a b =
@@ -58,11 +57,11 @@ third-A before rest part e = by-split before rest part (sym calls-A ∙ e)
         omega (arith, ap room-of x, ap room-of y)
     by-split (c ∷ d ∷ f ∷ before) rest part e m a b = let z : readings (pos 70 ∷ pos 71 ∷ pos 72 ∷ []) ≡ f = cc in omega (arith, ap room-of z)
 
-module _ (r : Evaluated) (left : List ℤ) (p : Performed frame-A words-A given-A r left) where
+module _ (r : Evaluated) (final : List ℤ) (p : Performed frame-A words-A given-A r final) where
   -- after two steps the rows read 1 and 2, after four 5 and 8; the third word of the part of three is as it
   -- was, and so is the word past the parts
-  list-A : left ≡ pos 1 ∷ pos 2 ∷ pos 72 ∷ pos 5 ∷ pos 8 ∷ pos 75 ∷ []
-  unfolding words-A given-A calls-of parts-after place readings-list readings-checks frame-A calls.run loaded advanced advance-checks steps-made steps one-step fresh breaks-limit beyond frame-checks field number bits run decode curve-entry matrix right-side first-row-from weight total dot sum list-from stores stepped-digits stepped-residuals shifted next-digit next-residual select digit-size reading
+  list-A : final ≡ pos 1 ∷ pos 2 ∷ pos 72 ∷ pos 5 ∷ pos 8 ∷ pos 75 ∷ []
+  unfolding words-A given-A calls-of parts-after room-of-all readings-list readings-checks frame-A calls.run loaded advanced advance-checks steps-made steps one-step fresh breaks-limit beyond frame-checks field number bits values-from decode curve-entry matrix right-side first-row-from weight total dot sum list-from stores stepped-digits stepped-residuals shifted next-digit next-residual select digit-size reading
   list-A = p .accepted (omega (arith, accepted-A)) .1
 
   -- by demand 3 four steps are made
@@ -71,22 +70,19 @@ module _ (r : Evaluated) (left : List ℤ) (p : Performed frame-A words-A given-
   answer-A = p .accepted (omega (arith, accepted-A)) .0 ∙ ap (λ (k : ℕ). record { refusal = 0; row = 0; made = k }) (p .accurate (omega (arith, accepted-A)) .steps-made)
 
   -- and the fourth word is row 1's reading
-  word-A : at left 3 ≡ pos 5
-  unfolding before-A place budgets frame-A field number bits run decode curve-entry matrix right-side dot sum digit residual shifted next-digit next-residual select digit-size reading
-  word-A = p .handed-out (omega (arith, accepted-A)) before-A [] (pos 73 ∷ pos 74 ∷ []) calls-A (omega arith) 0 (omega arith)
+  fourth-word-A : at final 3 ≡ pos 5
+  unfolding before-A room-of-all budgets frame-A field number bits values-from decode curve-entry matrix right-side dot sum digit residual shifted next-digit next-residual select digit-size reading
+  fourth-word-A = p .handed-out (omega (arith, accepted-A)) before-A [] (pos 73 ∷ pos 74 ∷ []) named-A (omega arith) 0 (omega arith)
 
-  kept-A : at left 2 ≡ pos 72
+  kept-A : at final 2 ≡ pos 72
   unfolding frame-A given-A field number bits
   kept-A = p .kept (omega (arith, accepted-A)) 2 third-A
 
 -- ---- D: refused by 8, with row 1
 
-unfoldable pub frame-D : List ℕ
-frame-D = 1 ∷ 16 ∷ 68 ∷ 20 ∷ 50 ∷ 0 ∷ []
-
-refused-D : (r : Evaluated) (left : List ℤ) → Performed frame-D words-A given-A r left → (r ≡ record { refusal = 8; row = 1; made = 0 }) × (left ≡ given-A)
-unfolding frame-D frame-checks field number bits run decode curve-entry matrix right-side first-row-from weight total
-refused-D r left p = p .refused (omega arith)
+refused-D : (r : Evaluated) (final : List ℤ) → Performed frame-D words-A given-A r final → (r ≡ record { refusal = 8; row = 1; made = 0 }) × (final ≡ given-A)
+unfolding frame-D frame-checks field number bits values-from decode curve-entry matrix right-side first-row-from weight total
+refused-D r final p = p .refused (omega arith)
 
 -- ---- a room past the end is cut to what is left, and an odd word at the end is no call
 

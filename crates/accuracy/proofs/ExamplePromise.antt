@@ -4,34 +4,31 @@ use mathlib.Core.List.{List, [], _∷_}
 use Prim.Native.Nat.{ℕ}
 use native.Mathlib.Omega.{arith}
 use lib.IntN.{ℤ, pos}
-use Rattle.integers.specs.Product.{weight}
-use Rattle.integers.specs.Sum.{total}
-use Rattle.bitfields.specs.Layout.{field, number, bits, run}
+use Rattle.integers.specs.Sum.{weight, total}
+use Rattle.bitfields.specs.Layout.{field, number, bits, values-from}
 use Rattle.bitfields.specs.Twos.{decode}
-use Rattle.job.specs.Rows.{first-row-from}
-use Rattle.job.specs.System.{curve-entry, matrix, right-side}
+use Rattle.system.specs.Rows.{first-row-from}
+use Rattle.system.specs.System.{curve-entry, matrix, right-side}
 use Rattle.frame.specs.Frame.{frame-checks}
 use Rattle.accuracy.specs.Calls.{advance, readings, budgets}
 use Rattle.accuracy.specs.Accuracy.{after}
 use Rattle.accuracy.specs.Promise.{Promise}
 use Rattle.accuracy.specs.declared.Evaluated.{Evaluated}
-use Rattle.accuracy.proofs.ExampleA.{frame-A, calls-A, accepted-A, readings-A}
+use Rattle.evaluator.proofs.ExamplePastOrder.{frame-A}
+use Rattle.accuracy.proofs.ExampleA.{calls-A, accepted-A, readings-A, frame-D}
 
 -- ---- D: x 5 in A
 
-unfoldable pub frame-D : List ℕ
-frame-D = 1 ∷ 16 ∷ 68 ∷ 20 ∷ 50 ∷ 0 ∷ []
-
 -- it is refused by 8 with row 1, no step is made, and no word of the list changes
-pub promised-D : (list : List ℕ) (given : List ℤ) (r : Evaluated) (left : List ℤ) → Promise frame-D list given r left → (r ≡ record { refusal = 8; row = 1; made = 0 }) × (left ≡ given)
-unfolding frame-D frame-checks field number bits run decode curve-entry matrix right-side first-row-from weight total
-promised-D list given r left p = p .refused (omega arith)
+pub promised-D : (list : List ℕ) (given : List ℤ) (r : Evaluated) (final : List ℤ) → Promise frame-D list given r final → (r ≡ record { refusal = 8; row = 1; made = 0 }) × (final ≡ given)
+unfolding frame-D frame-checks field number bits values-from decode curve-entry matrix right-side first-row-from weight total
+promised-D list given r final p = p .refused (omega arith)
 
 -- ---- A, with the budgets 1, 0 and 9 and three words lent
 
-module _ (x y w : ℤ) (r : Evaluated) (left : List ℤ) (p : Promise frame-A (1 ∷ 0 ∷ 9 ∷ []) (x ∷ y ∷ w ∷ []) r left) where
+module _ (x y w : ℤ) (r : Evaluated) (final : List ℤ) (p : Promise frame-A (1 ∷ 0 ∷ 9 ∷ []) (x ∷ y ∷ w ∷ []) r final) where
   -- it is not refused, four steps are made, and the list has 5, 8 and the third word as it was
-  pub promised-A : (r ≡ record { refusal = 0; row = 0; made = 4 }) × (left ≡ pos 5 ∷ pos 8 ∷ w ∷ [])
+  pub promised-A : (r ≡ record { refusal = 0; row = 0; made = 4 }) × (final ≡ pos 5 ∷ pos 8 ∷ w ∷ [])
   unfolding calls-A
   promised-A =
       let q = p .accepted (omega (arith, accepted-A)) in

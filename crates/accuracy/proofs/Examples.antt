@@ -6,31 +6,30 @@ use Prim.Native.Nat.{ℕ, _<_, _≤_}
 use native.Mathlib.Omega.{arith}
 use lib.IntN.{ℤ, pos, negsuc, natAbs, _+ℤ_, _-ℤ_, _*ℤ_}
 use Rattle.integers.specs.Flat.{at, list-from, stores}
-use Rattle.integers.specs.Normal.{solve, polys}
-use Rattle.integers.specs.Order.{zarith}
-use Rattle.integers.specs.Power.{cancel}
-use Rattle.integers.specs.Product.{dot, weight}
-use Rattle.integers.specs.Sum.{sum, total}
-use Rattle.bitfields.specs.Layout.{field, number, bits, run}
+use Rattle.integers.proofs.Normal.{solve, polys}
+use Rattle.integers.proofs.Order.{zarith}
+use Rattle.integers.proofs.Power.{cancel}
+use Rattle.integers.specs.Sum.{dot, weight, sum, total}
+use Rattle.bitfields.specs.Layout.{field, number, bits, values-from}
 use Rattle.bitfields.specs.Twos.{decode}
-use Rattle.job.specs.Rows.{first-row-from}
-use Rattle.job.specs.System.{curve-entry, matrix, right-side}
+use Rattle.system.specs.Rows.{first-row-from}
+use Rattle.system.specs.System.{curve-entry, matrix, right-side}
 use Rattle.frame.specs.Frame.{frame-checks, frame-refusal}
-use Rattle.recurrence.specs.Flat.{stepped-digits, stepped-residuals}
+use Rattle.stepping.specs.Steps.{stepped-digits, stepped-residuals, steps, one-step}
 use Rattle.recurrence.specs.Recurrence.{shifted, next-digit, next-residual, reading}
 use Rattle.recurrence.specs.Selection.{select, digit-size}
 use Rattle.curve.specs.Curve.{numerator-value, denominator-value}
-use Rattle.state.specs.Digits.{beyond}
-use Rattle.state.specs.State.{fresh, breaks-limit}
-use Rattle.evaluator.specs.Evaluator.{loaded, advanced, advance-checks, steps-made, steps, one-step, readings-list}
+use Rattle.state.specs.State.{beyond, fresh, breaks-limit}
+use Rattle.evaluator.specs.Evaluator.{loaded, advanced, advance-checks, steps-made, readings-list}
 use Rattle.accuracy.specs.Calls as calls
 use Rattle.accuracy.specs.Calls.{Call, advance}
 use Rattle.accuracy.specs.Accuracy.{Accurate, ExactValues, after, held-digit, Y}
 use Rattle.accuracy.proofs.Demand3.{accurate}
-use Rattle.accuracy.proofs.ExampleA.{frame-A, calls-A, one-step-A, two-steps-A, words-A, middle-A, end-A, accepted-A}
+use Rattle.evaluator.proofs.ExamplePastOrder.{frame-A}
+use Rattle.accuracy.proofs.ExampleA.{calls-A, one-step-A, two-steps-A, lent-A, middle-A, end-A, accepted-A}
 use Rattle.accuracy.proofs.ExampleDigits.{steps-A, row-A, spelt-A, later-A}
 use Rattle.accuracy.proofs.ExampleNear.{near-A, distance-A, curve-A}
-use Rattle.accuracy.proofs.ExampleReadings.{handed-A, nothing-A, word-A}
+use Rattle.accuracy.proofs.ExampleReadings.{handed-A, nothing-A, one-word-A}
 use Rattle.accuracy.proofs.ExampleIdentity.{identity-one, identity-two}
 
 -- ---- A
@@ -47,14 +46,14 @@ pub numbers-A :
     × (held-digit frame-A two-steps-A 3 0 ≡ pos 0)
     × (natAbs (pos 5 *ℤ pos 4 -ℤ pos 16 *ℤ Y frame-A calls-A 2 0) ≤ 16)
     × (natAbs (pos 5 *ℤ pos 4 -ℤ pos 16 *ℤ pos 1) ≤ 16)
-    × (at (readings-list (after frame-A middle-A) words-A) 0 ≡ pos 1)
-    × (at (readings-list (after frame-A middle-A) words-A) 1 ≡ pos 2)
+    × (at (readings-list (after frame-A middle-A) lent-A) 0 ≡ pos 1)
+    × (at (readings-list (after frame-A middle-A) lent-A) 1 ≡ pos 2)
     × (readings-list (after frame-A two-steps-A) [] ≡ [])
     × (readings-list (after frame-A end-A) (pos 9 ∷ []) ≡ pos 9 ∷ [])
     × (pos 10 ≡ at (after frame-A one-step-A .z) 0 +ℤ pos 4)
     × (pos 4 ≡ at (after frame-A two-steps-A .z) 0 +ℤ pos 0)
 numbers-A =
-    (steps-A holds-A, row-A holds-A, later-A holds-A, near-A holds-A, distance-A holds-A, handed-A holds-A .0, handed-A holds-A .1, nothing-A holds-A, word-A holds-A, identity-one holds-A, identity-two holds-A)
+    (steps-A holds-A, row-A holds-A, later-A holds-A, near-A holds-A, distance-A holds-A, handed-A holds-A .0, handed-A holds-A .1, nothing-A holds-A, one-word-A holds-A, identity-one holds-A, identity-two holds-A)
 
 -- row 1's exact value is 5/16, in every solution, and the reading 5 after 4 steps is that value exactly
 pub case-A : (N : ℕ → ℤ) (D : ℕ) → ExactValues frame-A N D → pos 16 *ℤ N 0 ≡ pos D *ℤ Y frame-A calls-A 4 0
@@ -73,7 +72,7 @@ unfoldable pub calls-B : List Call
 calls-B = advance 3 ∷ advance 2 ∷ advance 7 ∷ []
 
 accepted-B : frame-refusal frame-B ≡ 0
-unfolding frame-B frame-checks field number bits run decode curve-entry matrix right-side first-row-from weight total
+unfolding frame-B frame-checks field number bits values-from decode curve-entry matrix right-side first-row-from weight total
 accepted-B = refl
 
 steps-B : after frame-B calls-B .k ≡ 5
@@ -81,12 +80,13 @@ unfolding frame-B calls-B calls.budgets field number bits
 steps-B = accurate frame-B accepted-B calls-B .steps-made
 
 reading-B : Y frame-B calls-B 5 0 ≡ pos 15
-unfolding frame-B calls-B calls.run loaded advanced advance-checks steps-made steps one-step fresh breaks-limit beyond frame-checks field number bits run decode curve-entry matrix right-side first-row-from weight total dot sum list-from stores stepped-digits stepped-residuals shifted next-digit next-residual select digit-size reading
+unfolding frame-B calls-B calls.run loaded advanced advance-checks steps-made steps one-step fresh breaks-limit beyond frame-checks field number bits values-from decode curve-entry matrix right-side first-row-from weight total dot sum list-from stores stepped-digits stepped-residuals shifted next-digit next-residual select digit-size reading
 reading-B = refl
 
--- row 1's exact value is 16/33, in every solution, and the reading 15 after 5 steps, over 32, is within 1/32 of it
+-- row 1's exact value is 16/33, in every solution, and the reading 15 after 5 steps, over 32, is within
+-- 1/32 of it
 pub case-B : (N : ℕ → ℤ) (D : ℕ) → 0 < D → ExactValues frame-B N D → (pos 33 *ℤ N 0 ≡ pos 16 *ℤ pos D) × (natAbs (N 0 *ℤ pos 32 -ℤ pos D *ℤ pos 15) ≤ D)
-unfolding frame-B field number bits run decode numerator-value denominator-value sum
+unfolding frame-B field number bits values-from decode numerator-value denominator-value sum
 case-B N D h exact = (cancel {d = pos 8} (omega zarith) (first (N 0) (pos D) (value N D exact)), near)
   where
     value : (N : ℕ → ℤ) (D : ℕ) → ExactValues frame-B N D → pos 264 *ℤ N 0 ≡ pos 128 *ℤ pos D

@@ -11,21 +11,22 @@ use lib.Dec.{nltb→le}
 use lib.IntN.{ℤ, pos}
 use lib.ListN.{length, take, drop, getD, length-append, length-drop, take-append-drop, drop-of-length-le, List·getD-append}
 use lib.Seq.{length-take-le, take-all, take-length, drop-cons, take-at, drop-at, drop-drop, getD-append-add, getD-drop}
-use Rattle.integers.specs.Flat.{at, length-list-from}
-use Rattle.integers.specs.Maximum.{le-or-lt}
+use Rattle.integers.specs.Flat.{at}
+use Rattle.integers.proofs.Flat.{length-list-from}
+use Rattle.integers.proofs.Maximum.{le-or-lt}
 use Rattle.job.specs.Refusal.{first-refusal, None, none, also}
 use Rattle.job.proofs.Refusal.{accepted-before}
 use Rattle.job.specs.declared.Header.{Header}
 use Rattle.state.specs.State.{state-checks}
 use Rattle.state.specs.declared.State.{State}
-use Rattle.evaluator.specs.Evaluator.{least, steps-made, advanced, state-reading, readings-checks, readings-refusal, readings-list}
+use Rattle.evaluator.specs.Evaluator.{smaller, steps-made, advanced, state-reading, readings-checks, readings-refusal, readings-list}
 use Rattle.evaluator.specs.declared.Advanced.{Advanced}
-use Rattle.evaluator.proofs.Follow.{steps-header}
-use Rattle.evaluator.proofs.Theorems.{readings-accepted, refused-readings, readings-past, advanced-passes}
+use Rattle.stepping.proofs.Steps.{steps-header}
+use Rattle.evaluator.proofs.Theorems.{readings-decided, refused-readings, readings-past, advanced-passes}
 use Rattle.accuracy.specs.Calls.{Call, advance, readings, state-after, run}
-use Rattle.accuracy.specs.Perform.{call-of, room-of, calls-of, place, part-after, parts-after, list-after, Untouched}
+use Rattle.accuracy.specs.Perform.{call-of, room-of, calls-of, room-of-all, part-after, parts-after, list-after, Untouched}
 use Rattle.accuracy.specs.declared.calls.Made.{Made}
-use Rattle.accuracy.proofs.Runs.{least-left, least-right}
+use Rattle.accuracy.proofs.Runs.{smaller-left, smaller-right}
 
 -- ---- the states on the way
 
@@ -53,7 +54,7 @@ readings-taken s room e h = rw (accepted-before (state-checks s) _ tt e, le-ltb 
 
 room-enough : (s : State) (room : ℕ) → readings-refusal s room ≡ 0 → s .header .n ≤ room
 unfolding readings-checks
-room-enough s room e = taken (readings-accepted s room .0 e)
+room-enough s room e = taken (readings-decided s room .accepted .0 e)
   where
     taken : None (readings-checks s room) → s .header .n ≤ room
     taken (also idle (also broken (also short none))) = nltb→le room (s .header .n) short
@@ -75,35 +76,35 @@ length-part : (s : State) (c : Call) → length (part-after s c) ≡ room-of c
 length-part s (advance budget) = refl
 length-part s (readings part) = length-readings s part
 
-length-parts : (s : State) (cs : List Call) → length (parts-after s cs) ≡ place cs
-unfolding parts-after place
+length-parts : (s : State) (cs : List Call) → length (parts-after s cs) ≡ room-of-all cs
+unfolding parts-after room-of-all
 length-parts s [] = refl
 length-parts s (c ∷ cs) = rw (length-append, length-part s c, length-parts (state-after s c) cs)
 
 -- ---- one call: what `make_call` answers and leaves
 
-part-cut : (value room : ℕ) (given : List ℤ) → room ≡ least value (length given) → (take value given ≡ take room given) × (room ≤ length given)
+part-cut : (value room : ℕ) (given : List ℤ) → room ≡ smaller value (length given) → (take value given ≡ take room given) × (room ≤ length given)
 part-cut value room given e = by-case (le-or-lt value (length given))
   where
     by-case : (value ≤ length given) ⊎ (length given < value) → (take value given ≡ take room given) × (room ≤ length given)
-    by-case (inl l) = let f = e ∙ least-left value (length given) l in (rw f, omega arith)
+    by-case (inl l) = let f = e ∙ smaller-left value (length given) l in (rw f, omega arith)
     by-case (inr l) =
-        let f = e ∙ least-right value (length given) (omega arith) in
+        let f = e ∙ smaller-right value (length given) (omega arith) in
         (rw f (take-all value given (omega arith) ∙ sym (take-length given)), omega arith)
 
-pub room-within : (value room : ℕ) (given : List ℤ) → room ≡ least value (length given) → room ≤ length given
+pub room-within : (value room : ℕ) (given : List ℤ) → room ≡ smaller value (length given) → room ≤ length given
 room-within value room given e = part-cut value room given e .1
 
 module _ (s : State) (value : ℕ) (given : List ℤ) where
   abbrev Answer : ℕ → Made → List ℤ → Type 0
-  Answer kind r left =
+  Answer kind r final =
       (r ≡ record { state = state-after s (call-of kind value given); room = room-of (call-of kind value given) })
-      × (left ≡ part-after s (call-of kind value given) ++ drop (room-of (call-of kind value given)) given)
+      × (final ≡ part-after s (call-of kind value given) ++ drop (room-of (call-of kind value given)) given)
 
   pub call-advance : (kind : ℕ) (a : Advanced) → kind ≡ 0 → a ≡ advanced s value → Answer kind (record { state = a .state; room = 0 }) given
   call-advance kind a k e = rw (k, e) (refl, refl)
 
-  pub call-readings : (kind room : ℕ) (part : List ℤ) → (kind ≡ 0 → ⊥) → room ≡ least value (length given) → part ≡ readings-list s (take room given)
+  pub call-readings : (kind room : ℕ) (part : List ℤ) → (kind ≡ 0 → ⊥) → room ≡ smaller value (length given) → part ≡ readings-list s (take room given)
       → Answer kind (record { state = s; room = room }) (part ++ drop room given)
   call-readings zero room part k e f = absurd (k refl)
   call-readings (suc kind) room part k e f =
@@ -136,31 +137,31 @@ calls-last (kind ∷ value ∷ words) given h = absurd (omega arith)
 
 -- the list after a call and those after it
 list-next : (s : State) (c : Call) (cs : List Call) (given : List ℤ) → list-after s (c ∷ cs) given ≡ part-after s c ++ list-after (state-after s c) cs (drop (room-of c) given)
-unfolding parts-after place
-list-next s c cs given = rw (drop-drop (place cs) (room-of c) given) (append-assoc (part-after s c) (parts-after (state-after s c) cs) _)
+unfolding parts-after room-of-all
+list-next s c cs given = rw (drop-drop (room-of-all cs) (room-of c) given) (append-assoc (part-after s c) (parts-after (state-after s c) cs) _)
 
 -- what is left to do from here gives what the whole gives from the start
-pub record Turn (s : State) (words : List ℕ) (given left : List ℤ) (t : State) (from i : ℕ) : Type 0 where
+pub record Turn (s : State) (words : List ℕ) (given final : List ℤ) (t : State) (from i : ℕ) : Type 0 where
   pub passed : i ≤ length words
-  pub within : from ≤ length left
-  pub room : length left ≡ length given
-  pub state : run t (calls-of (drop i words) (drop from left)) ≡ run s (calls-of words given)
-  pub list : take from left ++ list-after t (calls-of (drop i words) (drop from left)) (drop from left) ≡ list-after s (calls-of words given) given
+  pub within : from ≤ length final
+  pub room : length final ≡ length given
+  pub state : run t (calls-of (drop i words) (drop from final)) ≡ run s (calls-of words given)
+  pub list : take from final ++ list-after t (calls-of (drop i words) (drop from final)) (drop from final) ≡ list-after s (calls-of words given) given
 
 module _ (s : State) (words : List ℕ) (given : List ℤ) where
   pub turn-first : Turn s words given given s 0 0
   turn-first = record { passed = omega arith; within = omega arith; room = refl; state = refl; list = refl }
 
-  module _ (left : List ℤ) (t : State) (from i : ℕ) (turn : Turn s words given left t from i) where
-    pub turn-last : length words - i < 2 → (t ≡ run s (calls-of words given)) × (left ≡ list-after s (calls-of words given) given)
-    unfolding run parts-after place
+  module _ (final : List ℤ) (t : State) (from i : ℕ) (turn : Turn s words given final t from i) where
+    pub turn-last : length words - i < 2 → (t ≡ run s (calls-of words given)) × (final ≡ list-after s (calls-of words given) given)
+    unfolding run parts-after room-of-all
     turn-last h =
-        let e : calls-of (drop i words) (drop from left) ≡ [] = calls-last (drop i words) (drop from left) (rw length-drop h) in
-        (rw e at (turn .state), sym (take-append-drop from left) ∙ (rw e at (turn .list)))
+        let e : calls-of (drop i words) (drop from final) ≡ [] = calls-last (drop i words) (drop from final) (rw length-drop h) in
+        (rw e at (turn .state), sym (take-append-drop from final) ∙ (rw e at (turn .list)))
 
     -- what is left of the list, the call that the next two words make of it, and the calls after it
     abbrev ahead : List ℤ
-    ahead = drop from left
+    ahead = drop from final
 
     abbrev call-on : List ℤ → Call
     call-on list = call-of (getD words i 0) (getD words (i + 1) 0) list
@@ -173,13 +174,13 @@ module _ (s : State) (words : List ℕ) (given : List ℤ) where
 
     -- the list up to the end of the call's part, after it
     abbrev done : List ℤ
-    done = take from left ++ part-after t call
+    done = take from final ++ part-after t call
 
     done-length : length done ≡ from + room-of call
-    done-length = rw (length-append, length-take-le from left (turn .within), length-part t call)
+    done-length = rw (length-append, length-take-le from final (turn .within), length-part t call)
 
-    next-within : from + room-of call ≤ length left
-    next-within = omega (arith, room-part (getD words i 0) (getD words (i + 1) 0) ahead, length-drop from left)
+    next-within : from + room-of call ≤ length final
+    next-within = omega (arith, room-part (getD words i 0) (getD words (i + 1) 0) ahead, length-drop from final)
 
     next-turn : 2 ≤ length words - i → Turn s words given (done ++ drop (room-of call) ahead) (state-after t call) (from + room-of call) (i + 2)
     unfolding run
@@ -187,7 +188,7 @@ module _ (s : State) (words : List ℕ) (given : List ℤ) where
         let e = calls-next words i ahead h in
         let d : drop (from + room-of call) (done ++ drop (room-of call) ahead) ≡ drop (room-of call) ahead = drop-at done (drop (room-of call) ahead) _ done-length in
         let u : take (from + room-of call) (done ++ drop (room-of call) ahead) ≡ done = take-at done (drop (room-of call) ahead) _ done-length in
-        let l : length (done ++ drop (room-of call) ahead) ≡ length left =
+        let l : length (done ++ drop (room-of call) ahead) ≡ length final =
         rw (length-append, done-length, length-drop, length-drop) (omega (arith, next-within)) in
         record {
           passed = omega arith;
@@ -195,20 +196,20 @@ module _ (s : State) (words : List ℕ) (given : List ℤ) where
           room = l ∙ turn .room;
           state = rw d (rw e at (turn .state));
           list = rw (u, d)
-              (append-assoc (take from left) (part-after t call) _ ∙ ap (λ (list : List ℤ). take from left ++ list) (sym (list-next t call calls ahead)) ∙ (rw e at (turn .list)));
+              (append-assoc (take from final) (part-after t call) _ ∙ ap (λ (list : List ℤ). take from final ++ list) (sym (list-next t call calls ahead)) ∙ (rw e at (turn .list)));
         }
 
     -- the same with the part lent and the list put together as the code has them
     abbrev lent : List ℤ
-    lent = take (length left - from) ahead
+    lent = take (length final - from) ahead
 
     pub turn-next : 2 ≤ length words - i → (m : Made) (part : List ℤ) → m ≡ record { state = state-after t (call-on lent); room = room-of (call-on lent) }
         → part ≡ part-after t (call-on lent) ++ drop (room-of (call-on lent)) lent
-        → Turn s words given (take from left ++ (part ++ drop (length left - from) ahead)) (m .state) (from + m .room) (i + 2)
+        → Turn s words given (take from final ++ (part ++ drop (length final - from) ahead)) (m .state) (from + m .room) (i + 2)
     turn-next h m part em ep =
-        let l : length ahead ≤ length left - from = omega (arith, length-drop from left) in
-        let e : lent ≡ ahead = take-all (length left - from) ahead l in
-        rw (em, ep, e, drop-of-length-le ahead l, append-nil, ← append-assoc (take from left) (part-after t call) (drop (room-of call) ahead)) (next-turn h)
+        let l : length ahead ≤ length final - from = omega (arith, length-drop from final) in
+        let e : lent ≡ ahead = take-all (length final - from) ahead l in
+        rw (em, ep, e, drop-of-length-le ahead l, append-nil, ← append-assoc (take from final) (part-after t call) (drop (room-of call) ahead)) (next-turn h)
 
 -- ---- word by word
 
@@ -219,7 +220,7 @@ parts-split s (c ∷ before) rest part = rw (parts-split (state-after s c) befor
 
 -- the words of a readings call's part, after all calls
 pub at-part : (s : State) (before rest : List Call) (part tail : List ℤ) (i : ℕ) → i < length part
-    → at (parts-after s (before ++ (readings part ∷ rest)) ++ tail) (place before + i) ≡ at (readings-list (run s before) part) i
+    → at (parts-after s (before ++ (readings part ∷ rest)) ++ tail) (room-of-all before + i) ≡ at (readings-list (run s before) part) i
 at-part s before rest part tail i h =
     let l : i < length (readings-list (run s before) part) = rw (length-readings (run s before) part) h in
     rw (parts-split s before rest part, append-assoc, append-assoc, ← length-parts s before)
@@ -245,7 +246,7 @@ kept-reading s part j h = by-place (le-or-lt (s .header .n) j)
 
 kept-call : (s : State) (kind value : ℕ) (given : List ℤ) (cs : List Call) (j : ℕ) → Untouched (s .header .n) (call-of kind value given ∷ cs) j → j < room-of (call-of kind value given)
     → at (part-after s (call-of kind value given)) j ≡ at given j
-unfolding place
+unfolding room-of-all
 kept-call s zero value given cs j free h = absurd (omega arith)
 kept-call s (suc kind) value given cs j free h =
     kept-reading s (take value given) j (λ m. by-place m (le-or-lt (s .header .n) j))
@@ -256,7 +257,7 @@ kept-call s (suc kind) value given cs j free h =
     by-place m (inr l) = absurd (free [] cs (take value given) refl m (omega arith) (omega arith))
 
 untouched-next : (n : ℕ) (c : Call) (cs : List Call) (j : ℕ) → room-of c ≤ j → Untouched n (c ∷ cs) j → Untouched n cs (j - room-of c)
-unfolding place
+unfolding room-of-all
 untouched-next n c cs j h free before rest part e m a b = free (c ∷ before) rest part (rw e refl) m (omega arith) (omega arith)
 
 kept-step : (s : State) (c : Call) (cs : List Call) (given : List ℤ) (j : ℕ) → (j < room-of c → at (part-after s c) j ≡ at given j)
@@ -276,7 +277,7 @@ kept-step s c cs given j here later = rw (list-next s c cs given) (by-place (le-
 
 -- a word to which no reading is handed is as it was
 pub kept-word : (s : State) (n : ℕ) (words : List ℕ) (given : List ℤ) (j : ℕ) → s .header .n ≡ n → Untouched n (calls-of words given) j → at (list-after s (calls-of words given) given) j ≡ at given j
-unfolding calls-of parts-after place
+unfolding calls-of parts-after room-of-all
 kept-word s n [] given j e free = refl
 kept-word s n (kind ∷ []) given j e free = refl
 kept-word s n (kind ∷ value ∷ words) given j e free =

@@ -8,16 +8,18 @@ use lib.ListN.{length}
 use Rattle.integers.specs.Flat.{at}
 use Rattle.job.specs.Refusal.{first-refusal}
 use Rattle.job.specs.declared.Header.{Header}
-use Rattle.frame.specs.Frame.{frame-refusal, header-of, frame-numbers}
+use Rattle.frame.specs.Frame.{frame-refusal, frame-numbers}
+use Rattle.header.specs.Header.{header-of}
 use Rattle.state.specs.State.{fresh, state-checks}
 use Rattle.state.specs.declared.State.{State}
-use Rattle.evaluator.specs.Evaluator.{loaded, steps, readings-refusal, readings-list}
+use Rattle.evaluator.specs.Evaluator.{loaded, readings-refusal, readings-list}
+use Rattle.stepping.specs.Steps.{steps}
 use Rattle.evaluator.specs.declared.Loaded.{Loaded}
 use Rattle.evaluator.proofs.Kept.{fresh-start, loaded-passes}
 use Rattle.evaluator.proofs.Theorems.{accepted-load}
 use Rattle.accuracy.specs.Accuracy.{order, after}
 use Rattle.accuracy.specs.Calls.{Call, readings, run}
-use Rattle.accuracy.specs.Perform.{calls-of, place, list-after, Performed}
+use Rattle.accuracy.specs.Perform.{calls-of, room-of-all, list-after, Performed}
 use Rattle.accuracy.proofs.Demand3.{accurate}
 use Rattle.accuracy.proofs.Parts.{run-header, run-passes, readings-taken, at-part, kept-word}
 
@@ -45,9 +47,9 @@ module _ (frame : List ℕ) (ok : frame-refusal frame ≡ 0) where
       readings-taken (after frame before) room (run-passes (loaded frame .state) before start-passes) (rw e h)
 
   -- its part holds what it handed out
-  in-part : (calls before rest : List Call) (part given left : List ℤ) → left ≡ list-after (loaded frame .state) calls given → calls ≡ before ++ (readings part ∷ rest) → (i : ℕ) → i < length part
-      → at left (place before + i) ≡ at (readings-list (after frame before) part) i
-  in-part calls before rest part given left el e i h = rw (el, e) (at-part (loaded frame .state) before rest part _ i h)
+  in-part : (calls before rest : List Call) (part given final : List ℤ) → final ≡ list-after (loaded frame .state) calls given → calls ≡ before ++ (readings part ∷ rest) → (i : ℕ) → i < length part
+      → at final (room-of-all before + i) ≡ at (readings-list (after frame before) part) i
+  in-part calls before rest part given final el e i h = rw (el, e) (at-part (loaded frame .state) before rest part _ i h)
 
 -- ---- the promise
 
@@ -67,18 +69,18 @@ module _ (frame words : List ℕ) (given : List ℤ) (l : Loaded) (e : l ≡ loa
         kept = λ g j free. refl;
       }
 
-  pub performed-accepted : (t : State) (left : List ℤ) → l .refusal ≤ 0 → t ≡ run (l .state) (calls-of words given) → left ≡ list-after (l .state) (calls-of words given) given
-      → Performed frame words given (record { refusal = 0; row = 0; made = t .k }) left
-  performed-accepted t left h et el =
+  pub performed-accepted : (t : State) (final : List ℤ) → l .refusal ≤ 0 → t ≡ run (l .state) (calls-of words given) → final ≡ list-after (l .state) (calls-of words given) given
+      → Performed frame words given (record { refusal = 0; row = 0; made = t .k }) final
+  performed-accepted t final h et el =
       let ok : frame-refusal frame ≡ 0 = omega (arith, refusal-is) in
       let ft : t ≡ after frame (calls-of words given) = et ∙ ap (λ (x : Loaded). run (x .state) (calls-of words given)) e in
-      let fl : left ≡ list-after (loaded frame .state) (calls-of words given) given = el ∙ ap (λ (x : Loaded). list-after (x .state) (calls-of words given) given) e in
+      let fl : final ≡ list-after (loaded frame .state) (calls-of words given) given = el ∙ ap (λ (x : Loaded). list-after (x .state) (calls-of words given) given) e in
       record {
         refused = λ g. absurd (omega arith);
         accepted = λ g. (rw ft, fl);
         accurate = λ g. accurate frame ok (calls-of words given);
         handed-out = λ g before rest part s m i a.
-            in-part frame ok (calls-of words given) before rest part given left fl s i (omega arith)
+            in-part frame ok (calls-of words given) before rest part given final fl s i (omega arith)
             ∙ accurate frame ok (calls-of words given) .handed-out before rest part s (taken frame ok before (length part) m) i a;
         kept = λ g j free. rw fl (kept-word (loaded frame .state) (order frame) words given j (start-order frame ok) free);
       }

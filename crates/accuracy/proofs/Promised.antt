@@ -9,24 +9,27 @@ use lib.IntN.{ℤ}
 use lib.ListN.{length, drop}
 use Rattle.integers.specs.Flat.{list-from}
 use Rattle.job.specs.Header.{radix}
-use Rattle.job.proofs.Limits as limits
+use Rattle.job.proofs.Limits.{last-small}
 use Rattle.job.specs.Refusal.{first-refusal}
 use Rattle.job.specs.declared.Header.{Header}
-use Rattle.frame.specs.Frame.{frame-refusal, header-of, frame-numbers}
+use Rattle.frame.specs.Frame.{frame-refusal, frame-numbers}
+use Rattle.header.specs.Header.{header-of}
 use Rattle.recurrence.specs.Recurrence.{reading}
-use Rattle.state.specs.Digits.{digits-of}
-use Rattle.state.specs.Sound.{Sound, state-of}
-use Rattle.state.specs.State.{fresh, state-checks, state-last}
+use Rattle.state.specs.State.{digits-of, fresh, state-checks, state-last}
+use Rattle.state.specs.PassesLimits.{PassesLimits}
+use Rattle.state.specs.Inner.{state-of}
 use Rattle.state.specs.declared.State.{State}
-use Rattle.evaluator.specs.Evaluator.{loaded, steps, least, state-reading, readings-refusal, readings-list}
+use Rattle.evaluator.specs.Evaluator.{loaded, smaller, state-reading, readings-refusal, readings-list}
+use Rattle.stepping.specs.Steps.{steps}
 use Rattle.evaluator.specs.declared.Loaded.{Loaded}
-use Rattle.evaluator.specs.Steppable.{Steppable}
-use Rattle.evaluator.proofs.Kept.{fresh-start, loaded-sound, loaded-passes, steps-sound}
-use Rattle.evaluator.specs.Readable.{RowsReadable}
+use Rattle.stepping.specs.Inner.{MayStep}
+use Rattle.evaluator.proofs.Kept.{fresh-start, loaded-passes-limits, loaded-passes}
+use Rattle.stepping.proofs.Kept.{steps-pass-limits}
+use Rattle.evaluator.specs.Inner.{MayReadRows}
 use Rattle.evaluator.proofs.Calls.{readings-refuses, readings-writes}
-use Rattle.evaluator.proofs.Follow.{steps-header, steps-k}
-use Rattle.evaluator.proofs.Horner.{sound-readable}
-use Rattle.evaluator.proofs.Stepping.{fresh-whole}
+use Rattle.stepping.proofs.Steps.{steps-header, steps-k}
+use Rattle.evaluator.proofs.Horner.{may-read-rows}
+use Rattle.stepping.proofs.Stepping.{fresh-whole}
 use Rattle.evaluator.proofs.Theorems.{accepted-load}
 use Rattle.accuracy.specs.Accuracy.{after}
 use Rattle.accuracy.specs.Calls.{run, budgets, advances, readings}
@@ -35,12 +38,12 @@ use Rattle.accuracy.proofs.Demand3.{accurate}
 use Rattle.accuracy.proofs.Runs.{run-is, allowed-most}
 
 -- a state's digits and readings, by its header, its steps and its digits
-readable-of : (t : State) {h : Header} {k : ℕ} {ds : List ℤ} → t .header ≡ h → t .k ≡ k → ds ≡ t .digits → Sound t → RowsReadable h k ds
-readable-of t eh ek ed p = rw (← eh, ← ek, ed) (sound-readable p)
+readable-of : (t : State) {h : Header} {k : ℕ} {ds : List ℤ} → t .header ≡ h → t .k ≡ k → ds ≡ t .digits → PassesLimits t → MayReadRows h k ds
+readable-of t eh ek ed p = rw (← eh, ← ek, ed) (may-read-rows p)
 
-readings-of : (t : State) {h : Header} {k : ℕ} {ds left : List ℤ} (given : List ℤ) → t .header ≡ h → t .k ≡ k → ds ≡ t .digits
-    → left ≡ list-from 0 (h .n) (reading (radix (h .code)) (digits-of ds) k) ++ drop (h .n) given
-    → left ≡ list-from 0 (t .header .n) (state-reading t) ++ drop (t .header .n) given
+readings-of : (t : State) {h : Header} {k : ℕ} {ds final : List ℤ} (given : List ℤ) → t .header ≡ h → t .k ≡ k → ds ≡ t .digits
+    → final ≡ list-from 0 (h .n) (reading (radix (h .code)) (digits-of ds) k) ++ drop (h .n) given
+    → final ≡ list-from 0 (t .header .n) (state-reading t) ++ drop (t .header .n) given
 readings-of t given eh ek ed el = rw (eh, ek, ← ed) el
 
 module _ (frame list : List ℕ) (given : List ℤ) (l : Loaded) (e : l ≡ loaded frame) where
@@ -57,9 +60,9 @@ module _ (frame list : List ℕ) (given : List ℤ) (l : Loaded) (e : l ≡ load
         accurate = λ g. absurd (omega (arith, refusal-is));
       }
 
-  pub promise-accepted : (t : State) (c : ℕ) (left : List ℤ) → l .refusal ≤ 0 → t ≡ run (l .state) (advances list) → c ≡ readings-refusal t (length given) → left ≡ readings-list t given
-      → Promise frame list given (record { refusal = c; row = 0; made = t .k }) left
-  promise-accepted t c left h et ec el =
+  pub promise-accepted : (t : State) (c : ℕ) (final : List ℤ) → l .refusal ≤ 0 → t ≡ run (l .state) (advances list) → c ≡ readings-refusal t (length given) → final ≡ readings-list t given
+      → Promise frame list given (record { refusal = c; row = 0; made = t .k }) final
+  promise-accepted t c final h et ec el =
       let ok : frame-refusal frame ≡ 0 = omega (arith, refusal-is) in
       let f : t ≡ after frame (advances list) = et ∙ ap (λ (x : Loaded). run (x .state) (advances list)) e in
       record {
@@ -82,17 +85,17 @@ module _ (frame list : List ℕ) (given : List ℤ) (l : Loaded) (e : l ≡ load
     job-start : (job .busy ≡ true) × (job .k ≡ 0) × (job .header ≡ header-of frame)
     job-start = rw job-is (fresh-start (header-of frame) (frame-numbers frame))
 
-    job-sound : Sound job
-    job-sound = rw job-is (loaded-sound frame ok)
+    job-sound : PassesLimits job
+    job-sound = rw job-is (loaded-passes-limits frame ok)
 
-    pub last-small : state-last job ≤ 60
-    last-small = limits.last-small (job .header) (job-sound .limits)
+    pub job-last-small : state-last job ≤ 60
+    job-last-small = last-small (job .header) (job-sound .limits)
 
     passes : (j : ℕ) → j ≤ state-last job → first-refusal (state-checks (steps job j)) ≡ 0
     passes j m = rw job-is (loaded-passes frame ok j (rw (job-start .2) at m))
 
     -- the steps that the budgets allow
-    module _ (made : ℕ) (em : made ≡ least (state-last job) (budgets (advances list))) where
+    module _ (made : ℕ) (em : made ≡ smaller (state-last job) (budgets (advances list))) where
       made-most : made ≤ state-last job
       made-most = allowed-most (state-last job) made (budgets (advances list)) em
 
@@ -103,7 +106,7 @@ module _ (frame list : List ℕ) (given : List ℤ) (l : Loaded) (e : l ≡ load
       unfolding steps
       run-made =
           let z : 0 + budgets (advances list) ≡ budgets (advances list) = omega arith in
-          ap (steps job) (em ∙ ap (least (state-last job)) (sym z)) ∙ sym (run-is job (job-start .1) passes 0 (advances list) (omega arith))
+          ap (steps job) (em ∙ ap (smaller (state-last job)) (sym z)) ∙ sym (run-is job (job-start .1) passes 0 (advances list) (omega arith))
 
       k-is : done .k ≡ made
       k-is = omega (arith, steps-k job made, job-start .1)
@@ -112,30 +115,30 @@ module _ (frame list : List ℕ) (given : List ℤ) (l : Loaded) (e : l ≡ load
       unfolding fresh
       room = rw job-is refl
 
-      pub steppable : Steppable (state-of true (job .header) 0 (job .g) (job .z) (job .digits)) made
+      pub steppable : MayStep (state-of true (job .header) 0 (job .g) (job .z) (job .digits)) made
       steppable =
           rw (fresh-whole job (job-start .0) (job-start .1))
-          (record { sound = job-sound; room = room; left = omega (arith, made-most, job-start .1) })
+          (record { passes = job-sound; room = room; left = omega (arith, made-most, job-start .1) })
 
-      with-made : (c : ℕ) (left : List ℤ) → Promise frame list given (record { refusal = c; row = 0; made = done .k }) left → Promise frame list given (record { refusal = c; row = 0; made = made }) left
-      with-made c left p = rw k-is at p
+      with-made : (c : ℕ) (final : List ℤ) → Promise frame list given (record { refusal = c; row = 0; made = done .k }) final → Promise frame list given (record { refusal = c; row = 0; made = made }) final
+      with-made c final p = rw k-is at p
 
       -- what `make_steps` leaves, in `ds`, can be read
       module _ (ds : List ℤ) (ed : ds ≡ steps (state-of true (job .header) 0 (job .g) (job .z) (job .digits)) made .digits) where
         digits-are : ds ≡ done .digits
         digits-are = rw (fresh-whole job (job-start .0) (job-start .1)) at ed
 
-        pub rows-readable : RowsReadable (job .header) made ds
+        pub rows-readable : MayReadRows (job .header) made ds
         rows-readable =
-            readable-of done (steps-header job made) k-is digits-are (steps-sound job made job-sound (omega (arith, made-most, job-start .1)))
+            readable-of done (steps-header job made) k-is digits-are (steps-pass-limits job made job-sound (omega (arith, made-most, job-start .1)))
 
-        pub promise-done : (left : List ℤ) → job .header .n ≤ length given
-            → left ≡ list-from 0 (job .header .n) (reading (radix (job .header .code)) (digits-of ds) made) ++ drop (job .header .n) given
-            → Promise frame list given (record { refusal = 0; row = 0; made = made }) left
-        promise-done left m el =
+        pub promise-done : (final : List ℤ) → job .header .n ≤ length given
+            → final ≡ list-from 0 (job .header .n) (reading (radix (job .header .code)) (digits-of ds) made) ++ drop (job .header .n) given
+            → Promise frame list given (record { refusal = 0; row = 0; made = made }) final
+        promise-done final m el =
             let r = readings-writes done given 0 0 (sym (passes made made-most)) (rw (steps-header job made, le-ltb (length given) (job .header .n) m) refl)
-            left refl (readings-of done given (steps-header job made) k-is digits-are el) in
-            with-made 0 left (promise-accepted done 0 left h run-made (r .0) (r .1))
+            final refl (readings-of done given (steps-header job made) k-is digits-are el) in
+            with-made 0 final (promise-accepted done 0 final h run-made (r .0) (r .1))
 
       pub promise-short : length given < job .header .n → Promise frame list given (record { refusal = 23; row = 0; made = made }) given
       promise-short m =

@@ -1,5 +1,5 @@
--- Lists of calls from a fresh job are steps of it: as many as the smaller of the last step and the sum of the budgets. Cited by `Demand3`, and by the
--- proof of `steps_allowed`.
+-- Lists of calls from a fresh job are steps of it: as many as the smaller of the last step and the sum of
+-- the budgets. Cited by `Demand3`, and by the proof of `steps_allowed`.
 use mathlib.Core.Path.{_≡_, refl, sym, ap, _∙_}
 use mathlib.Core.Bool.{cond}
 use mathlib.Core.List.{List, [], _∷_, _++_}
@@ -11,69 +11,70 @@ use lib.Dec.{leb, eqb, eqb·suc-zero}
 use lib.ListN.{length, take, getD}
 use lib.Seq.{take-suc}
 use native.Mathlib.Numerals.{add-one}
-use Rattle.integers.specs.Maximum.{le-or-lt}
+use Rattle.integers.proofs.Maximum.{le-or-lt}
 use Rattle.job.specs.Rules.{last-step}
 use Rattle.job.specs.Refusal.{first-refusal}
 use Rattle.job.proofs.Refusal.{accepted-before}
 use Rattle.state.specs.State.{state-checks, state-last}
 use Rattle.state.specs.declared.State.{State}
-use Rattle.evaluator.specs.Evaluator.{steps, least, advanced, advance-checks, steps-made}
-use Rattle.evaluator.proofs.Follow.{steps-header, steps-k, steps-add}
+use Rattle.stepping.specs.Steps.{steps}
+use Rattle.evaluator.specs.Evaluator.{smaller, advanced, advance-checks, steps-made}
+use Rattle.stepping.proofs.Steps.{steps-header, steps-k, steps-add}
 use Rattle.accuracy.specs.Calls.{Call, advance, readings, run, budgets, advances}
 
 -- ---- the smaller of two numbers
 
-pub least-left : (a b : ℕ) → a ≤ b → least a b ≡ a
-least-left a b h = rw (le-leb a b h)
+pub smaller-left : (a b : ℕ) → a ≤ b → smaller a b ≡ a
+smaller-left a b h = rw (le-leb a b h)
 
-pub least-right : (a b : ℕ) → b ≤ a → least a b ≡ b
-least-right a b h = by-case (le-or-lt a b)
+pub smaller-right : (a b : ℕ) → b ≤ a → smaller a b ≡ b
+smaller-right a b h = by-case (le-or-lt a b)
   where
-    by-case : (a ≤ b) ⊎ (b < a) → least a b ≡ b
-    by-case (inl l) = let e : a ≡ b = omega arith in least-left a b l ∙ e
+    by-case : (a ≤ b) ⊎ (b < a) → smaller a b ≡ b
+    by-case (inl l) = let e : a ≡ b = omega arith in smaller-left a b l ∙ e
     by-case (inr l) = rw (lt-leb a b l)
 
-pub least-most : (a b : ℕ) → least a b ≤ a
-least-most a b = by-case (le-or-lt a b)
+pub smaller-within : (a b : ℕ) → smaller a b ≤ a
+smaller-within a b = by-case (le-or-lt a b)
   where
-    by-case : (a ≤ b) ⊎ (b < a) → least a b ≤ a
-    by-case (inl l) = omega (arith, least-left a b l)
-    by-case (inr l) = omega (arith, least-right a b (omega arith))
+    by-case : (a ≤ b) ⊎ (b < a) → smaller a b ≤ a
+    by-case (inl l) = omega (arith, smaller-left a b l)
+    by-case (inr l) = omega (arith, smaller-right a b (omega arith))
 
 -- a cap that is reached stays
-pub least-again : (a b c : ℕ) → least a (least a b + c) ≡ least a (b + c)
-least-again a b c = by-case (le-or-lt a b)
+pub smaller-again : (a b c : ℕ) → smaller a (smaller a b + c) ≡ smaller a (b + c)
+smaller-again a b c = by-case (le-or-lt a b)
   where
-    by-case : (a ≤ b) ⊎ (b < a) → least a (least a b + c) ≡ least a (b + c)
-    by-case (inl l) = rw (least-left a b l) (least-left a (a + c) (omega arith) ∙ sym (least-left a (b + c) (omega arith)))
-    by-case (inr l) = rw (least-right a b (omega arith))
+    by-case : (a ≤ b) ⊎ (b < a) → smaller a (smaller a b + c) ≡ smaller a (b + c)
+    by-case (inl l) = rw (smaller-left a b l) (smaller-left a (a + c) (omega arith) ∙ sym (smaller-left a (b + c) (omega arith)))
+    by-case (inr l) = rw (smaller-right a b (omega arith))
 
 -- what is left of a cap
-least-left-over : (a b j : ℕ) → j ≤ a → j + least b (a - j) ≡ least a (j + b)
-least-left-over a b j h = by-case (le-or-lt b (a - j))
+smaller-rest : (a b j : ℕ) → j ≤ a → j + smaller b (a - j) ≡ smaller a (j + b)
+smaller-rest a b j h = by-case (le-or-lt b (a - j))
   where
-    by-case : (b ≤ a - j) ⊎ (a - j < b) → j + least b (a - j) ≡ least a (j + b)
-    by-case (inl l) = rw (least-left b (a - j) l) (sym (least-right a (j + b) (omega arith)))
-    by-case (inr l) = rw (least-right b (a - j) (omega arith)) (let e : j + (a - j) ≡ a = omega arith in e ∙ sym (least-left a (j + b) (omega arith)))
+    by-case : (b ≤ a - j) ⊎ (a - j < b) → j + smaller b (a - j) ≡ smaller a (j + b)
+    by-case (inl l) = rw (smaller-left b (a - j) l) (sym (smaller-right a (j + b) (omega arith)))
+    by-case (inr l) = rw (smaller-right b (a - j) (omega arith)) (let e : j + (a - j) ≡ a = omega arith in e ∙ sym (smaller-left a (j + b) (omega arith)))
 
 -- ---- one advance of a state that passes 20 and 24
 
 module _ (s : State) (passes : first-refusal (state-checks s) ≡ 0) (room : s .k ≤ state-last s) where
   -- the growth of k: up to the last step
-  pub made-is : (budget : ℕ) → s .k + steps-made s budget ≡ least (state-last s) (s .k + budget)
+  pub made-is : (budget : ℕ) → s .k + steps-made s budget ≡ smaller (state-last s) (s .k + budget)
   unfolding steps-made advance-checks
   made-is zero =
       rw (accepted-before (state-checks s) _ tt passes)
-      (let e : s .k + 0 ≡ s .k = omega arith in rw e (sym (least-right (state-last s) (s .k) room)))
+      (let e : s .k + 0 ≡ s .k = omega arith in rw e (sym (smaller-right (state-last s) (s .k) room)))
   made-is (suc b) = rw (accepted-before (state-checks s) _ tt passes, eqb·suc-zero b) (by-case (le-or-lt (state-last s) (s .k)))
     where
-      by-case : (state-last s ≤ s .k) ⊎ (s .k < state-last s) → s .k + cond (eqb (cond (leb (state-last s) (s .k)) 21 0) 0) (least (suc b) (state-last s - s .k)) 0 ≡ least (state-last s) (s .k + suc b)
+      by-case : (state-last s ≤ s .k) ⊎ (s .k < state-last s) → s .k + cond (eqb (cond (leb (state-last s) (s .k)) 21 0) 0) (smaller (suc b) (state-last s - s .k)) 0 ≡ smaller (state-last s) (s .k + suc b)
       by-case (inl l) =
           rw (le-leb (state-last s) (s .k) l)
-          (let e : s .k + 0 ≡ state-last s = omega arith in e ∙ sym (least-left (state-last s) (s .k + suc b) (omega arith)))
-      by-case (inr l) = rw (lt-leb (state-last s) (s .k) l) (least-left-over (state-last s) (suc b) (s .k) room)
+          (let e : s .k + 0 ≡ state-last s = omega arith in e ∙ sym (smaller-left (state-last s) (s .k + suc b) (omega arith)))
+      by-case (inr l) = rw (lt-leb (state-last s) (s .k) l) (smaller-rest (state-last s) (suc b) (s .k) room)
 
-made-from : (t : State) (j l budget : ℕ) → t .k ≡ j → state-last t ≡ l → first-refusal (state-checks t) ≡ 0 → j ≤ l → j + steps-made t budget ≡ least l (j + budget)
+made-from : (t : State) (j l budget : ℕ) → t .k ≡ j → state-last t ≡ l → first-refusal (state-checks t) ≡ 0 → j ≤ l → j + steps-made t budget ≡ smaller l (j + budget)
 made-from t j l budget e f passes h = rw (← e, ← f) (made-is t passes (rw (e, f) h) budget)
 
 -- ---- every list of calls
@@ -82,20 +83,20 @@ module _ (s : State) (start : s .k ≡ 0) (passes : (j : ℕ) → j ≤ state-la
   made : (j : ℕ) → steps s j .k ≡ j
   made j = omega (arith, steps-k s j)
 
-  advance-is : (j budget : ℕ) → j ≤ state-last s → advanced (steps s j) budget .state ≡ steps s (least (state-last s) (j + budget))
+  advance-is : (j budget : ℕ) → j ≤ state-last s → advanced (steps s j) budget .state ≡ steps s (smaller (state-last s) (j + budget))
   unfolding advanced
   advance-is j budget h =
-      let e : j + steps-made (steps s j) budget ≡ least (state-last s) (j + budget) =
+      let e : j + steps-made (steps s j) budget ≡ smaller (state-last s) (j + budget) =
       made-from (steps s j) j (state-last s) budget (made j) (ap last-step (steps-header s j)) (passes j h) h in
       sym (steps-add s j (steps-made (steps s j) budget)) ∙ rw e
 
-  pub run-is : (j : ℕ) (calls : List Call) → j ≤ state-last s → run (steps s j) calls ≡ steps s (least (state-last s) (j + budgets calls))
+  pub run-is : (j : ℕ) (calls : List Call) → j ≤ state-last s → run (steps s j) calls ≡ steps s (smaller (state-last s) (j + budgets calls))
   unfolding run budgets
-  run-is j [] h = let e : j + 0 ≡ j = omega arith in rw (e, least-right (state-last s) j h)
+  run-is j [] h = let e : j + 0 ≡ j = omega arith in rw (e, smaller-right (state-last s) j h)
   run-is j (advance budget ∷ calls) h =
       let e : j + (budget + budgets calls) ≡ j + budget + budgets calls = omega arith in
-      rw (advance-is j budget h, e, ← least-again (state-last s) (j + budget) (budgets calls))
-      (run-is (least (state-last s) (j + budget)) calls (least-most (state-last s) (j + budget)))
+      rw (advance-is j budget h, e, ← smaller-again (state-last s) (j + budget) (budgets calls))
+      (run-is (smaller (state-last s) (j + budget)) calls (smaller-within (state-last s) (j + budget)))
   run-is j (readings out ∷ calls) h = run-is j calls h
 
 -- ---- a loop over budgets
@@ -118,16 +119,16 @@ budgets-more list i h =
     (budgets-append (advances (take i list)) (advance (getD list i 0) ∷ []) ∙ rw e refl)
 
 -- the steps that the first i budgets allow, and those of one more
-pub allowed-none : (last : ℕ) (list : List ℕ) → 0 ≡ least last (budgets (advances (take 0 list)))
+pub allowed-none : (last : ℕ) (list : List ℕ) → 0 ≡ smaller last (budgets (advances (take 0 list)))
 unfolding budgets
-allowed-none last list = sym (least-right last 0 (omega arith))
+allowed-none last list = sym (smaller-right last 0 (omega arith))
 
-pub allowed-most : (last made S : ℕ) → made ≡ least last S → made ≤ last
-allowed-most last made S e = omega (arith, e, least-most last S)
+pub allowed-most : (last made S : ℕ) → made ≡ smaller last S → made ≤ last
+allowed-most last made S e = omega (arith, e, smaller-within last S)
 
-pub allowed-more : (last made x : ℕ) (list : List ℕ) (i : ℕ) → i < length list → made ≡ least last (budgets (advances (take i list)))
-    → x ≡ least (getD list i 0) (last - made) → made + x ≡ least last (budgets (advances (take (i + 1) list)))
+pub allowed-more : (last made x : ℕ) (list : List ℕ) (i : ℕ) → i < length list → made ≡ smaller last (budgets (advances (take i list)))
+    → x ≡ smaller (getD list i 0) (last - made) → made + x ≡ smaller last (budgets (advances (take (i + 1) list)))
 allowed-more last made x list i h e f =
     let S = budgets (advances (take i list)) in
     rw (f, budgets-more list i h)
-    (least-left-over last (getD list i 0) made (allowed-most last made S e) ∙ rw e (least-again last S (getD list i 0)))
+    (smaller-rest last (getD list i 0) made (allowed-most last made S e) ∙ rw e (smaller-again last S (getD list i 0)))

@@ -1,5 +1,5 @@
--- Demand 3: what holds after every list of calls from the fresh load of an accepted frame. It is one statement, `Accurate frame calls`, made of
--- document 01's definitions; `accurate` of proofs/Demand3.antt proves it of every accepted frame and every list of calls.
+-- Demand 3: what holds after every list of calls from the fresh load of an accepted frame. It is one
+-- statement, `Accurate frame calls`, made of document 01's definitions.
 use mathlib.Core.Path.{_≡_}
 use mathlib.Core.Bool.{true}
 use mathlib.Core.List.{List, _∷_, _++_}
@@ -7,18 +7,20 @@ use Prim.Native.Nat.{ℕ, _*_, _-_, _^_, _<_, _≤_}
 use lib.IntN.{ℤ, pos, natAbs, _+ℤ_, _-ℤ_, _*ℤ_}
 use lib.ListN.{length}
 use Rattle.integers.specs.Flat.{at}
-use Rattle.integers.specs.Product.{dot}
+use Rattle.integers.specs.Sum.{dot}
 use Rattle.job.specs.Header.{radix, unit}
 use Rattle.job.specs.Kind.{Kind, kind-of}
 use Rattle.job.specs.Rules.{last-step, inner-unit}
-use Rattle.job.specs.System.{matrix-of, right-side-of}
-use Rattle.frame.specs.Frame.{header-of, frame-numbers}
+use Rattle.system.specs.System.{matrix-of, right-side-of}
+use Rattle.header.specs.Header.{header-of}
+use Rattle.frame.specs.Frame.{frame-numbers, frame-refusal}
 use Rattle.recurrence.specs.Recurrence.{reading}
-use Rattle.recurrence.specs.System.{Solves}
+use Rattle.recurrence.specs.Equations.{Solves}
 use Rattle.curve.specs.Curve.{has-value, value-over, value-under, CurveValue}
-use Rattle.state.specs.Digits.{all-steps, digits-of}
+use Rattle.state.specs.State.{all-steps, digits-of}
 use Rattle.state.specs.declared.State.{State}
-use Rattle.evaluator.specs.Evaluator.{loaded, least, job-digit, readings-refusal, readings-list}
+use Rattle.evaluator.specs.Evaluator.{loaded, smaller, readings-refusal, readings-list}
+use Rattle.stepping.specs.Steps.{job-digit}
 use Rattle.accuracy.specs.Calls.{Call, readings, run, budgets}
 
 -- ---- a frame's job: the kind, the order n, the radix r, the largest digit p, the unit u = 2^f of its
@@ -30,11 +32,11 @@ kind frame = kind-of (header-of frame .kind)
 abbrev pub order : List ℕ → ℕ
 order frame = header-of frame .n
 
-abbrev pub base : List ℕ → ℕ
-base frame = radix (header-of frame .code)
+abbrev pub radix-of : List ℕ → ℕ
+radix-of frame = radix (header-of frame .code)
 
-abbrev pub largest : List ℕ → ℕ
-largest frame = header-of frame .p
+abbrev pub largest-digit : List ℕ → ℕ
+largest-digit frame = header-of frame .p
 
 abbrev pub unit-of : List ℕ → ℕ
 unit-of frame = unit (header-of frame)
@@ -42,10 +44,11 @@ unit-of frame = unit (header-of frame)
 abbrev pub inner-unit-of : List ℕ → ℕ
 inner-unit-of frame = inner-unit (header-of frame)
 
-abbrev pub last : List ℕ → ℕ
-last frame = last-step (header-of frame)
+abbrev pub last-step-of : List ℕ → ℕ
+last-step-of frame = last-step (header-of frame)
 
--- the matrix G, which is the identity less A, and the right-hand sides b, in units of 1/u; rows and columns count from 0
+-- the matrix G, which is the identity less A, and the right-hand sides b, in units of 1/u; rows and columns
+-- count from 0
 abbrev pub G : List ℕ → ℕ → ℕ → ℤ
 G frame = matrix-of (header-of frame) (frame-numbers frame)
 
@@ -62,7 +65,8 @@ true-digit frame = job-digit (header-of frame) (G frame) (b frame)
 abbrev pub ExactValues : List ℕ → (ℕ → ℤ) → ℕ → Type 0
 ExactValues frame N D = Solves (order frame) (unit-of frame) D (G frame) (b frame) N
 
--- exact values exist, and in all of them row 1's N / D is p_0 + p_1 x + .. over 1 + q_1 x + .., whose denominator is above 0
+-- exact values exist, and in all of them row 1's N / D is p_0 + p_1 x + .. over 1 + q_1 x + .., which is
+-- above 0
 abbrev pub ExactCurve : List ℕ → Type 0
 ExactCurve frame =
     CurveValue (order frame) (unit-of frame) (G frame) (b frame)
@@ -75,34 +79,38 @@ abbrev pub after : List ℕ → List Call → State
 after frame calls = run (loaded frame .state) calls
 
 -- the digit of step j and row i that it holds
-abbrev pub held-digit : List ℕ → List Call → ℕ → ℕ → ℤ
+abbrev pub held-digit : (frame : List ℕ) (calls : List Call) (j i : ℕ) → ℤ
 held-digit frame calls = digits-of (after frame calls .digits)
 
 -- Y: the whole number that its first k digits of row i spell
-abbrev pub Y : List ℕ → List Call → ℕ → ℕ → ℤ
-Y frame calls = reading (base frame) (held-digit frame calls)
+abbrev pub Y : (frame : List ℕ) (calls : List Call) (k i : ℕ) → ℤ
+Y frame calls = reading (radix-of frame) (held-digit frame calls)
 
 -- ---- demand 3
 
 pub record Accurate (frame : List ℕ) (calls : List Call) : Type 0 where
   -- the steps made are the smaller of the job's last step and the sum of the budgets
-  pub steps-made : after frame calls .k ≡ least (last frame) (budgets calls)
+  pub steps-made : after frame calls .k ≡ smaller (last-step-of frame) (budgets calls)
   -- the digits are those of the steps on the frame's numbers, and 0 past the steps made
   pub digits : (j i : ℕ) → 1 ≤ j → j ≤ after frame calls .k → i < order frame → held-digit frame calls j i ≡ true-digit frame j i
   pub later-digits : (j i : ℕ) → after frame calls .k < j → j ≤ all-steps → i < order frame → held-digit frame calls j i ≡ pos 0
   -- for every k up to the steps made, every exact value and every row: (r - 1) |N r^k - D Y| ≤ p D
   pub near : (k : ℕ) → k ≤ after frame calls .k → (N : ℕ → ℤ) (D : ℕ) → 0 < D → ExactValues frame N D → (i : ℕ) → i < order frame →
-      (base frame - 1) * natAbs (N i *ℤ pos (base frame ^ k) -ℤ pos D *ℤ Y frame calls k i) ≤ largest frame * D
-  -- row 1's exact value is that of the curve, for the kinds that are curves: a polynomial and a rational
-  -- curve
+      (radix-of frame - 1) * natAbs (N i *ℤ pos (radix-of frame ^ k) -ℤ pos D *ℤ Y frame calls k i) ≤ largest-digit frame * D
+  -- row 1's exact value is that of the curve, for the kinds that are curves: polynomials and rational curves
   pub curve : has-value (kind frame) ≡ true → ExactCurve frame
-  -- a readings call on the way hands out each row's Y at the steps made by then, and nothing where it is refused
-  pub handed-out : (before rest : List Call) (out : List ℤ) → calls ≡ before ++ (readings out ∷ rest) → readings-refusal (after frame before) (length out) ≡ 0 → (i : ℕ) → i < order frame →
-      at (readings-list (after frame before) out) i ≡ reading (base frame) (true-digit frame) (least (last frame) (budgets before)) i
-  pub nothing-out : (before rest : List Call) (out : List ℤ) → calls ≡ before ++ (readings out ∷ rest) → 0 < readings-refusal (after frame before) (length out) →
-      readings-list (after frame before) out ≡ out
+  -- a readings call on the way hands out each row's Y at the steps made by then, and nothing if it is refused
+  pub handed-out : (before rest : List Call) (out : List ℤ) →
+      calls ≡ before ++ (readings out ∷ rest) → readings-refusal (after frame before) (length out) ≡ 0 → (i : ℕ) → i < order frame →
+      at (readings-list (after frame before) out) i ≡ reading (radix-of frame) (true-digit frame) (smaller (last-step-of frame) (budgets before)) i
+  pub nothing-out : (before rest : List Call) (out : List ℤ) →
+      calls ≡ before ++ (readings out ∷ rest) → 0 < readings-refusal (after frame before) (length out) → readings-list (after frame before) out ≡ out
   -- r^k (b - A y) = z + G d, with y = Y / r^k and d the digits of step k, whether or not a solution is named
-  pub identity : (i : ℕ) → i < order frame →
-      pos (base frame ^ after frame calls .k) *ℤ b frame i
-      -ℤ (pos (inner-unit-of frame) *ℤ Y frame calls (after frame calls .k) i -ℤ dot (order frame) (G frame i) (Y frame calls (after frame calls .k)))
-      ≡ at (after frame calls .z) i +ℤ dot (order frame) (G frame i) (held-digit frame calls (after frame calls .k))
+  pub identity : (i : ℕ) → i < order frame → let k = after frame calls .k in
+      pos (radix-of frame ^ k) *ℤ b frame i
+      -ℤ (pos (inner-unit-of frame) *ℤ Y frame calls k i -ℤ dot (order frame) (G frame i) (Y frame calls k))
+      ≡ at (after frame calls .z) i +ℤ dot (order frame) (G frame i) (held-digit frame calls k)
+
+-- Every accepted frame is accurate after every list of calls. `accurate` of proofs/Demand3.antt proves it.
+abbrev pub EveryFrameAccurate : Type 0
+EveryFrameAccurate = (frame : List ℕ) → frame-refusal frame ≡ 0 → (calls : List Call) → Accurate frame calls

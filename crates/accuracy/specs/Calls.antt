@@ -1,5 +1,5 @@
--- Lists of calls (document 01, "Calls"): advance and readings in any order, with what each leaves, answers and hands out. They are made of
--- the very definitions that the contracts of advance and readings cite.
+-- Lists of calls (document 01, "Calls"): advance and readings in any order, with what each leaves, answers
+-- and hands out. They are made of the very definitions that the contracts of advance and readings cite.
 use mathlib.Core.List.{List, [], _∷_, map}
 use Prim.Native.Nat.{ℕ, _+_}
 use lib.IntN.{ℤ}

@@ -6,13 +6,14 @@ use Prim.Native.Nat.{ℕ, zero, suc, _+_, _<_, _≤_}
 use lib.IntN.{ℤ}
 use lib.ListN.{length, take, drop}
 use Rattle.integers.specs.Flat.{at}
-use Rattle.frame.specs.Frame.{frame-refusal, row-of, header-of, frame-numbers}
+use Rattle.frame.specs.Frame.{frame-refusal}
 use Rattle.recurrence.specs.Recurrence.{reading}
 use Rattle.state.specs.declared.State.{State}
-use Rattle.evaluator.specs.Evaluator.{loaded, least, readings-list}
-use Rattle.accuracy.specs.Accuracy.{order, base, last, true-digit, after, Accurate}
+use Rattle.evaluator.specs.Evaluator.{loaded, smaller, readings-list}
+use Rattle.accuracy.specs.Accuracy.{order, radix-of, last-step-of, true-digit, after, Accurate}
 use Rattle.accuracy.specs.Calls.{Call, advance, readings, state-after, budgets}
 use Rattle.accuracy.specs.declared.Evaluated.{Evaluated}
+use Rattle.accuracy.specs.Promise.{refused-evaluated}
 
 -- ---- the calls that words name; `given` is what is left of the list lent
 
@@ -35,11 +36,10 @@ calls-of (kind ∷ value ∷ words) given = call-of kind value given ∷ calls-o
 
 -- ---- what the calls leave in the list
 
--- how many words of it calls get in all: of the calls before a readings call, the place at which its part
--- begins
-unfoldable pub place : List Call → ℕ
-place [] = 0
-place (c ∷ cs) = room-of c + place cs
+-- how many words of it calls get in all; the part of a readings call begins past those of the calls before it
+unfoldable pub room-of-all : List Call → ℕ
+room-of-all [] = 0
+room-of-all (c ∷ cs) = room-of c + room-of-all cs
 
 -- a call's part after it
 abbrev pub part-after : State → Call → List ℤ
@@ -53,25 +53,27 @@ parts-after s (c ∷ cs) = part-after s c ++ parts-after (state-after s c) cs
 
 -- the whole list after the calls: the words past the last part are as they were
 abbrev pub list-after : State → List Call → List ℤ → List ℤ
-list-after s calls given = parts-after s calls ++ drop (place calls) given
+list-after s calls given = parts-after s calls ++ drop (room-of-all calls) given
 
 -- no readings call among them hands one of its n readings to word j
 abbrev pub Untouched : ℕ → List Call → ℕ → Type 0
-Untouched n calls j = (before rest : List Call) (part : List ℤ) → calls ≡ before ++ (readings part ∷ rest) → n ≤ length part → place before ≤ j → j < place before + n → ⊥
+Untouched n calls j = (before rest : List Call) (part : List ℤ) → calls ≡ before ++ (readings part ∷ rest) →
+    n ≤ length part → room-of-all before ≤ j → j < room-of-all before + n → ⊥
 
--- ---- the promise: `given` is the list lent, `left` what is in it afterwards
+-- ---- the promise: `given` is the list lent, `final` what is in it at the end
 
-pub record Performed (frame words : List ℕ) (given : List ℤ) (r : Evaluated) (left : List ℤ) : Type 0 where
-  -- a refused frame: its number and row, no call made and nothing handed out
-  pub refused : 0 < frame-refusal frame → (r ≡ record { refusal = frame-refusal frame; row = row-of (frame-refusal frame) (header-of frame) (frame-numbers frame); made = 0 }) × (left ≡ given)
+pub record Performed (frame words : List ℕ) (given : List ℤ) (r : Evaluated) (final : List ℤ) : Type 0 where
+  -- a refused frame: no call is made and nothing handed out
+  pub refused : 0 < frame-refusal frame → (r ≡ refused-evaluated frame) × (final ≡ given)
   -- an accepted one: the steps that the calls made in all, and the list as the calls leave it
-  pub accepted : frame-refusal frame ≡ 0 →
-      (r ≡ record { refusal = 0; row = 0; made = after frame (calls-of words given) .k }) × (left ≡ list-after (loaded frame .state) (calls-of words given) given)
+  pub accepted : frame-refusal frame ≡ 0 → let calls = calls-of words given in
+      (r ≡ record { refusal = 0; row = 0; made = after frame calls .k }) × (final ≡ list-after (loaded frame .state) calls given)
   -- demand 3 of just these calls
   pub accurate : frame-refusal frame ≡ 0 → Accurate frame (calls-of words given)
   -- and of every word handed out: a readings call whose part has a word for each row leaves in it each row's
   -- reading at the steps made by then
-  pub handed-out : frame-refusal frame ≡ 0 → (before rest : List Call) (part : List ℤ) → calls-of words given ≡ before ++ (readings part ∷ rest) → order frame ≤ length part → (i : ℕ) → i < order frame →
-      at left (place before + i) ≡ reading (base frame) (true-digit frame) (least (last frame) (budgets before)) i
+  pub handed-out : frame-refusal frame ≡ 0 → (before rest : List Call) (part : List ℤ) →
+      calls-of words given ≡ before ++ (readings part ∷ rest) → order frame ≤ length part → (i : ℕ) → i < order frame →
+      at final (room-of-all before + i) ≡ reading (radix-of frame) (true-digit frame) (smaller (last-step-of frame) (budgets before)) i
   -- every other word is as it was
-  pub kept : frame-refusal frame ≡ 0 → (j : ℕ) → Untouched (order frame) (calls-of words given) j → at left j ≡ at given j
+  pub kept : frame-refusal frame ≡ 0 → (j : ℕ) → Untouched (order frame) (calls-of words given) j → at final j ≡ at given j

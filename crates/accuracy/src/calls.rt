@@ -33,7 +33,7 @@ fn make_call(s: State, kind: u64, value: u64, list: &mut [i64]) -> Made
         let t = a.state;
         return Made { state: t, room: 0 };
     }
-    let room = evaluator::least(value, list.len() as u64) as usize;
+    let room = evaluator::smaller(value, list.len() as u64) as usize;
     evaluator::readings(s, &mut list[..room]);
     Made { state: s, room }
 }

@@ -4,7 +4,7 @@
 // order, and ensures the statement of it.
 ghost use mathlib.Core.Path.{_≡_};
 ghost use Prim.Native.Nat.{_≤_};
-ghost use Rattle.evaluator.specs.Evaluator.{least};
+ghost use Rattle.evaluator.specs.Evaluator.{smaller};
 ghost use Rattle.accuracy.specs.Calls.{budgets, advances};
 ghost use Rattle.accuracy.specs.Promise.{Promise};
 
@@ -19,22 +19,24 @@ pub struct Evaluated {
     pub made: usize,
 }
 
-// How many steps an advance for each budget of the list makes of a fresh job: as many as the budgets allow in all, and at most up to the last step.
+// How many steps an advance for each budget of the list makes of a fresh job: as many as the budgets allow
+// in all, and at most up to the last step.
 fn steps_allowed(list: &[u64], last: usize) -> usize
     requires { ⌜ last ≤ 60 ⌝ }
-    ensures { λ r. ⌜ r ≡ least last (budgets (advances (now (list .entry)))) ⌝ }
+    ensures { λ r. ⌜ r ≡ smaller last (budgets (advances (now (list .entry)))) ⌝ }
 {
     let mut made: usize = 0;
     let mut i: usize = 0;
     while i < list.len() {
-        made = made + evaluator::least(list[i], (last - made) as u64) as usize;
+        made = made + evaluator::smaller(list[i], (last - made) as u64) as usize;
         i += 1;
     }
     made
 }
 
-// Loads a frame, makes the steps that an advance for each budget makes, and writes a reading for each row to `out`. Refused as load is, by 1 to 9, and then as readings are,
-// by 23; a refusal changes no word of `out`. The steps of all advances are made at once, and a state that load made is not looked at again.
+// Loads a frame, makes the steps that an advance for each budget makes, and writes a reading for each row
+// to `out`. Refused as load is, by 1 to 9, and then as readings are, by 23; a refusal changes no word of
+// `out`. The steps of all advances are made at once, and a state that load made is not looked at again.
 pub fn evaluate(frame: &[u8], budgets: &[u64], out: &mut [i64]) -> Evaluated
     ensures { λ r. ⌜ Promise (now (frame .entry)) (now (budgets .entry)) (now (out .entry)) r (now (out .exit)) ⌝ }
 {
@@ -57,7 +59,7 @@ pub fn evaluate(frame: &[u8], budgets: &[u64], out: &mut [i64]) -> Evaluated
     }
     let mut z = l.state.z;
     let mut digits = l.state.digits;
-    evaluator::make_steps(h, 0, made, &l.state.g, &mut z, &mut digits);
+    stepping::make_steps(h, 0, made, &l.state.g, &mut z, &mut digits);
     evaluator::put_readings(h, made, &digits, out);
     Evaluated {
         refusal: 0,

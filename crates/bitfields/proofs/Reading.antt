@@ -1,5 +1,5 @@
--- Laws of the fields that a byte list has: their size, how they join, and that a part of the list has the same ones.
--- Assumes nothing.
+-- Laws of the fields that a byte list has: their size, how they join, and that a part of the list has the
+-- same ones.
 use mathlib.Core.Path.{_≡_, refl, sym, ap, _∙_}
 use mathlib.Core.List.{List, [], _∷_, _++_}
 use Prim.Native.Nat.{ℕ, zero, suc, _+_, _-_, _*_, _/_, _%_, _^_, _<_, _≤_}
@@ -10,8 +10,8 @@ use lib.ListN.{length, replicate, take, drop, getD, length-append, length-drop, 
 use lib.Pow as Pow
 use lib.Pow.{high, mod-mod-pow, mod-pow-add, pow-add, pow-pos, shr-shr}
 use lib.Seq.{length-take-le}
-use Rattle.bitfields.specs.Layout.{bits, number, widths, sum, Fit, none, more, each, number8, Bytes, field, fields, run}
-use Rattle.bitfields.proofs.Spelling.{bytes-drop, number8-append, number8-lt, sum-replicate, values, values-each}
+use Rattle.bitfields.specs.Layout.{bits, number, widths, total-width, Fit, none, more, each, number8, Bytes, field, fields, values-from}
+use Rattle.bitfields.proofs.Spelling.{bytes-drop, number8-append, number8-lt, total-width-replicate, values, values-each}
 
 -- ---- one field
 
@@ -79,72 +79,72 @@ unfolding fields
 widths-fields s at [] = refl
 widths-fields s at (w ∷ ws) = rw (widths-fields s (at + w) ws)
 
-pub bits-fields : (s : List ℕ) (at : ℕ) (ws : List ℕ) → bits (fields s at ws) ≡ sum ws
-unfolding fields sum bits
+pub bits-fields : (s : List ℕ) (at : ℕ) (ws : List ℕ) → bits (fields s at ws) ≡ total-width ws
+unfolding fields total-width bits
 bits-fields s at [] = refl
 bits-fields s at (w ∷ ws) = rw (bits-fields s (at + w) ws)
 
 -- together they spell the one field of their bits
-pub number-fields : (s : List ℕ) (at : ℕ) (ws : List ℕ) → at + sum ws ≤ 8 * length s → number (fields s at ws) ≡ field s at (sum ws)
-unfolding fields sum number
+pub number-fields : (s : List ℕ) (at : ℕ) (ws : List ℕ) → at + total-width ws ≤ 8 * length s → number (fields s at ws) ≡ field s at (total-width ws)
+unfolding fields total-width number
 number-fields s at [] h = omega (arith, field-lt s at 0)
 number-fields s at (w ∷ ws) h =
-    rw (bits-fields s (at + w) ws, number-fields s (at + w) ws (omega arith)) (sym (field-join s at w (sum ws) (omega arith)))
+    rw (bits-fields s (at + w) ws, number-fields s (at + w) ws (omega arith)) (sym (field-join s at w (total-width ws) (omega arith)))
 
-pub fields-append : (s : List ℕ) (at : ℕ) (ws vs : List ℕ) → fields s at (ws ++ vs) ≡ fields s at ws ++ fields s (at + sum ws) vs
-unfolding fields sum
+pub fields-append : (s : List ℕ) (at : ℕ) (ws vs : List ℕ) → fields s at (ws ++ vs) ≡ fields s at ws ++ fields s (at + total-width ws) vs
+unfolding fields total-width
 fields-append s at [] vs = rw add-zero
 fields-append s at (w ∷ ws) vs = rw (fields-append s (at + w) ws vs, add-assoc)
 
 -- ---- a run of values of one width
 
-pub length-run : (s : List ℕ) (at w n : ℕ) → length (run s at w n) ≡ n
-unfolding run
-length-run s at w zero = refl
-length-run s at w (suc n) = rw (length-run s (at + w) w n)
+pub length-values-from : (s : List ℕ) (at w n : ℕ) → length (values-from s at w n) ≡ n
+unfolding values-from
+length-values-from s at w zero = refl
+length-values-from s at w (suc n) = rw (length-values-from s (at + w) w n)
 
-pub getD-run : (s : List ℕ) (at w n i : ℕ) → i < n → getD (run s at w n) i 0 ≡ field s (at + w * i) w
-unfolding run
-getD-run s at w zero i h = absurd (omega arith)
-getD-run s at w (suc n) zero h = rw (mul-zero, add-zero)
-getD-run s at w (suc n) (suc i) h =
+pub getD-values-from : (s : List ℕ) (at w n i : ℕ) → i < n → getD (values-from s at w n) i 0 ≡ field s (at + w * i) w
+unfolding values-from
+getD-values-from s at w zero i h = absurd (omega arith)
+getD-values-from s at w (suc n) zero h = rw (mul-zero, add-zero)
+getD-values-from s at w (suc n) (suc i) h =
     let e : at + w * suc i ≡ at + w + w * i = rw mul-suc (omega arith) in
-    rw e (getD-run s (at + w) w n i (omega arith))
+    rw e (getD-values-from s (at + w) w n i (omega arith))
 
-pub run-append : (s : List ℕ) (at w n m : ℕ) → run s at w (n + m) ≡ run s at w n ++ run s (at + w * n) w m
-unfolding run
-run-append s at w zero m = rw (mul-zero, add-zero, zero-add)
-run-append s at w (suc n) m =
+pub values-from-append : (s : List ℕ) (at w n m : ℕ) → values-from s at w (n + m) ≡ values-from s at w n ++ values-from s (at + w * n) w m
+unfolding values-from
+values-from-append s at w zero m = rw (mul-zero, add-zero, zero-add)
+values-from-append s at w (suc n) m =
     let e : at + w * suc n ≡ at + w + w * n = rw mul-suc (omega arith) in
     let d : suc n + m ≡ suc (n + m) = omega arith in
-    rw (d, e, run-append s (at + w) w n m)
+    rw (d, e, values-from-append s (at + w) w n m)
 
 -- one more at the end
-pub run-suc : (s : List ℕ) (at w n : ℕ) → run s at w (suc n) ≡ run s at w n ++ (field s (at + w * n) w ∷ [])
-unfolding run
-run-suc s at w n = ap (run s at w) (sym (add-one n)) ∙ run-append s at w n 1
+pub values-from-suc : (s : List ℕ) (at w n : ℕ) → values-from s at w (suc n) ≡ values-from s at w n ++ (field s (at + w * n) w ∷ [])
+unfolding values-from
+values-from-suc s at w n = ap (values-from s at w) (sym (add-one n)) ∙ values-from-append s at w n 1
 
-pub fields-replicate : (s : List ℕ) (at w n : ℕ) → fields s at (replicate n w) ≡ each w (run s at w n)
-unfolding fields run
+pub fields-replicate : (s : List ℕ) (at w n : ℕ) → fields s at (replicate n w) ≡ each w (values-from s at w n)
+unfolding fields values-from
 fields-replicate s at w zero = refl
 fields-replicate s at w (suc n) = rw (fields-replicate s (at + w) w n)
 
-pub values-fields : (s : List ℕ) (at w n : ℕ) → values (fields s at (replicate n w)) ≡ run s at w n
-values-fields s at w n = rw (fields-replicate s at w n) (values-each w (run s at w n))
+pub values-from-fields : (s : List ℕ) (at w n : ℕ) → values (fields s at (replicate n w)) ≡ values-from s at w n
+values-from-fields s at w n = rw (fields-replicate s at w n) (values-each w (values-from s at w n))
 
 -- ---- a part of a byte list
 
 -- t has, in its first m bits, the fields of s from bit d on; then it has the same lists and runs of them
 module _ (s t : List ℕ) (d m : ℕ) (same : (at w : ℕ) → at + w ≤ m → field t at w ≡ field s (d + at) w) where
-  pub fields-same : (at : ℕ) (ws : List ℕ) → at + sum ws ≤ m → fields t at ws ≡ fields s (d + at) ws
-  unfolding fields sum
+  pub fields-same : (at : ℕ) (ws : List ℕ) → at + total-width ws ≤ m → fields t at ws ≡ fields s (d + at) ws
+  unfolding fields total-width
   fields-same at [] h = refl
   fields-same at (w ∷ ws) h = rw (same at w (omega arith), fields-same (at + w) ws (omega arith), add-assoc)
 
-  pub run-same : (at w n : ℕ) → at + w * n ≤ m → run t at w n ≡ run s (d + at) w n
-  run-same at w n h =
-      rw (← values-fields t at w n, ← values-fields s (d + at) w n)
-      (ap values (fields-same at (replicate n w) (rw (sum-replicate w n) h)))
+  pub values-from-same : (at w n : ℕ) → at + w * n ≤ m → values-from t at w n ≡ values-from s (d + at) w n
+  values-from-same at w n h =
+      rw (← values-from-fields t at w n, ← values-from-fields s (d + at) w n)
+      (ap values (fields-same at (replicate n w) (rw (total-width-replicate w n) h)))
 
 -- all bytes from byte k on
 pub field-drop : (s : List ℕ) (k at w : ℕ) → 8 * k + (at + w) ≤ 8 * length s → field (drop k s) at w ≡ field s (8 * k + at) w
@@ -152,13 +152,9 @@ field-drop s k at w h =
     let l : at + w ≤ 8 * length (drop k s) = rw length-drop (omega arith) in
     sym (rw (take-append-drop k s, length-take-le k s (omega arith)) at (field-append-back (take k s) (drop k s) at w l))
 
-pub fields-drop : (s : List ℕ) (k at : ℕ) (ws : List ℕ) → 8 * k + (at + sum ws) ≤ 8 * length s → fields (drop k s) at ws ≡ fields s (8 * k + at) ws
-fields-drop s k at ws h =
-    fields-same s (drop k s) (8 * k) (at + sum ws) (λ a v g. field-drop s k a v (omega arith)) at ws (omega arith)
-
-pub run-drop : (s : List ℕ) (k at w n : ℕ) → 8 * k + (at + w * n) ≤ 8 * length s → run (drop k s) at w n ≡ run s (8 * k + at) w n
-run-drop s k at w n h =
-    run-same s (drop k s) (8 * k) (at + w * n) (λ a v g. field-drop s k a v (omega arith)) at w n (omega arith)
+pub values-from-drop : (s : List ℕ) (k at w n : ℕ) → 8 * k + (at + w * n) ≤ 8 * length s → values-from (drop k s) at w n ≡ values-from s (8 * k + at) w n
+values-from-drop s k at w n h =
+    values-from-same s (drop k s) (8 * k) (at + w * n) (λ a v g. field-drop s k a v (omega arith)) at w n (omega arith)
 
 -- the m bytes from byte k on
 pub field-part : {s : List ℕ} (k m at w : ℕ) → Bytes s → k + m ≤ length s → at + w ≤ 8 * m → field (take m (drop k s)) at w ≡ field s (8 * k + at) w
@@ -166,9 +162,3 @@ field-part {s} k m at w b g h =
     let l : length (take m (drop k s)) ≡ m = length-take-le m (drop k s) (rw length-drop (omega arith)) in
     let f = field-append-front (take m (drop k s)) at w (bytes-drop m (bytes-drop k b)) (rw l h) in
     sym (rw (take-append-drop m (drop k s)) at f) ∙ field-drop s k at w (omega arith)
-
-pub fields-part : {s : List ℕ} (k m at : ℕ) (ws : List ℕ) → Bytes s → k + m ≤ length s → at + sum ws ≤ 8 * m → fields (take m (drop k s)) at ws ≡ fields s (8 * k + at) ws
-fields-part {s} k m at ws b g h = fields-same s (take m (drop k s)) (8 * k) (8 * m) (λ a v. field-part k m a v b g) at ws h
-
-pub run-part : {s : List ℕ} (k m at w n : ℕ) → Bytes s → k + m ≤ length s → at + w * n ≤ 8 * m → run (take m (drop k s)) at w n ≡ run s (8 * k + at) w n
-run-part {s} k m at w n b g h = run-same s (take m (drop k s)) (8 * k) (8 * m) (λ a v. field-part k m a v b g) at w n h

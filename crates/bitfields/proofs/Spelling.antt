@@ -1,9 +1,9 @@
--- Laws of field lists, of the numbers that they spell, and of the bytes of a number (the first two parts of `specs/Layout.antt`).
--- Assumes nothing.
+-- Laws of field lists, of the numbers that they spell, and of the bytes of a number (the first two parts of
+-- `specs/Layout.antt`).
 use mathlib.Core.Path.{_≡_, refl, sym, ap, _∙_}
 use mathlib.Core.List.{List, [], _∷_, _++_, map, map-append}
 use Prim.Native.Nat.{ℕ, zero, suc, _+_, _*_, _/_, _%_, _^_, _<_}
-use native.Mathlib.Nat.{add-assoc, add-comm, add-mul, mod-eq-of-lt, mod-lt, mod-one, mul-assoc, mul-suc, mul-zero, zero-add, zero-mul}
+use native.Mathlib.Nat.{add-assoc, add-comm, add-mul, mod-lt, mod-one, mul-assoc, mul-suc, mul-zero, zero-add, zero-mul}
 use native.Mathlib.Omega.{arith}
 use mir.Syntax.{w8}
 use mir.Val.{Fits}
@@ -11,7 +11,7 @@ use lib.Arith.{digits-lt}
 use lib.ListN.{length, replicate, take, drop, getD, take-append-drop}
 use lib.Pow.{high, low, mod-pow-add, pow-add, pow-pos}
 use lib.Seq.{getD-drop}
-use Rattle.bitfields.specs.Layout.{Field, bits, number, widths, sum, Fit, none, more, each, octets, number8, Bytes}
+use Rattle.bitfields.specs.Layout.{Field, bits, number, widths, total-width, Fit, none, more, each, octets, number8, Bytes}
 
 -- ---- one list of fields after another
 
@@ -25,18 +25,18 @@ unfolding number bits
 number-append [] gs = simp (zero-mul, zero-add)
 number-append (f ∷ fs) gs = simp (number-append fs gs, bits-append fs gs, pow-add, add-mul, mul-assoc, add-assoc)
 
-pub sum-append : (ws vs : List ℕ) → sum (ws ++ vs) ≡ sum ws + sum vs
-unfolding sum
-sum-append [] vs = sym (zero-add _)
-sum-append (w ∷ ws) vs = rw (sum-append ws vs, add-assoc)
+pub total-width-append : (ws vs : List ℕ) → total-width (ws ++ vs) ≡ total-width ws + total-width vs
+unfolding total-width
+total-width-append [] vs = sym (zero-add _)
+total-width-append (w ∷ ws) vs = rw (total-width-append ws vs, add-assoc)
 
 pub widths-append : (fs gs : List Field) → widths (fs ++ gs) ≡ widths fs ++ widths gs
 widths-append fs gs = map-append _ fs gs
 
-pub sum-widths : (fs : List Field) → sum (widths fs) ≡ bits fs
-unfolding sum bits
-sum-widths [] = refl
-sum-widths (f ∷ fs) = rw (sum-widths fs)
+pub total-width-widths : (fs : List Field) → total-width (widths fs) ≡ bits fs
+unfolding total-width bits
+total-width-widths [] = refl
+total-width-widths (f ∷ fs) = rw (total-width-widths fs)
 
 pub fit-append : {fs gs : List Field} → Fit fs → Fit gs → Fit (fs ++ gs)
 fit-append none k = k
@@ -67,10 +67,10 @@ unfolding bits
 bits-each w [] = sym (mul-zero w)
 bits-each w (v ∷ vs) = rw (mul-suc, bits-each w vs) (add-comm w _)
 
-pub sum-replicate : (w n : ℕ) → sum (replicate n w) ≡ w * n
-unfolding sum
-sum-replicate w zero = sym (mul-zero w)
-sum-replicate w (suc n) = rw (mul-suc, sum-replicate w n) (add-comm w _)
+pub total-width-replicate : (w n : ℕ) → total-width (replicate n w) ≡ w * n
+unfolding total-width
+total-width-replicate w zero = sym (mul-zero w)
+total-width-replicate w (suc n) = rw (mul-suc, total-width-replicate w n) (add-comm w _)
 
 pub widths-each : (w : ℕ) (vs : List ℕ) → widths (each w vs) ≡ replicate (length vs) w
 widths-each w [] = refl
@@ -106,7 +106,7 @@ number-inj none (more k q) e n = let z : _≡_ {A = ℕ} 0 1 = cc in absurd (ome
 number-inj (more h r) none e n = let z : _≡_ {A = ℕ} 0 1 = cc in absurd (omega arith)
 number-inj (more {w} {v} {fs} h r) (more {w = w′} {v = v′} {fs = gs} k q) e n =
     let t : widths fs ≡ widths gs = cc in
-    let b : bits fs ≡ bits gs = sym (sum-widths fs) ∙ ap sum t ∙ sum-widths gs in
+    let b : bits fs ≡ bits gs = sym (total-width-widths fs) ∙ ap total-width t ∙ total-width-widths gs in
     let x : v ≡ v′ = sym (high v (bits fs) (number-lt r)) ∙ rw (n, b) (high v′ (bits gs) (number-lt q)) in
     let m : number fs ≡ number gs = sym (low v (bits fs) (number-lt r)) ∙ rw (n, b) (low v′ (bits gs) (number-lt q)) in
     let i : fs ≡ gs = number-inj r q t m in
@@ -165,8 +165,3 @@ pub number8-inj : {s t : List ℕ} → Bytes s → Bytes t → length s ≡ leng
 number8-inj {s} {t} h k l n =
     let w : widths (each 8 s) ≡ widths (each 8 t) = rw (widths-each 8 s, widths-each 8 t, l) in
     sym (values-each 8 s) ∙ ap values (number-inj (fit-bytes h) (fit-bytes k) w n) ∙ values-each 8 t
-
-pub octets-number8 : {s : List ℕ} → Bytes s → octets (length s) (number8 s) ≡ s
-octets-number8 {s} h =
-    number8-inj (bytes-octets _ _) h (length-octets _ _)
-    (number8-octets (length s) (number8 s) ∙ mod-eq-of-lt (number8-lt h))

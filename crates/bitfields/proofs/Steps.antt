@@ -1,5 +1,5 @@
--- The laws of the code of `src/lib.rt`, over its variables: a turn of each loop, a window of bytes, a field put into place.
--- Assumes nothing.
+-- The laws of the code of `src/lib.rt`, over its variables: a turn of each loop, a window of bytes, a field
+-- put into place.
 use mathlib.Core.Path.{_≡_, refl, sym, _∙_}
 use mathlib.Core.List.{List, [], _∷_, _++_, map, map-append}
 use Prim.Native.Nat.{ℕ, zero, suc, _+_, _-_, _*_, _/_, _%_, _^_, _<_, _≤_}
@@ -21,13 +21,13 @@ use Rattle.bitfields.proofs.Twos.{fit-encodes, fits-take, length-number
 -- ---- bytes read
 
 -- a turn of `read_bytes`: one more byte
-pub read-turn : (s : List ℕ) (at j x : ℕ) → at + j < length s → x ≡ number8 (take j (drop at s)) → x * 256 + getD s (at + j) 0 ≡ number8 (take (j + 1) (drop at s))
-read-turn s at j x h e =
+pub read-bytes-turn : (s : List ℕ) (at j x : ℕ) → at + j < length s → x ≡ number8 (take j (drop at s)) → x * 256 + getD s (at + j) 0 ≡ number8 (take (j + 1) (drop at s))
+read-bytes-turn s at j x h e =
     let k : j < length (drop at s) = rw length-drop (omega arith) in
     rw (add-one, take-suc (drop at s) j 0, number8-append, number-one, getD-drop, e)
 
-pub read-turn-lt : (j : ℕ) {x b : ℕ} → x < 2 ^ (8 * j) → b < 256 → x * 256 + b < 2 ^ (8 * (j + 1))
-read-turn-lt j h g =
+pub read-bytes-turn-lt : (j : ℕ) {x b : ℕ} → x < 2 ^ (8 * j) → b < 256 → x * 256 + b < 2 ^ (8 * (j + 1))
+read-bytes-turn-lt j h g =
     let e : 8 * (j + 1) ≡ 8 * j + 8 = omega arith in
     rw (e, pow-add) (digits-lt h g)
 
@@ -73,9 +73,9 @@ getD-octets (suc n) x (suc j) h =
     rw e (getD-octets n x j (omega arith))
 
 -- a turn of `write_bytes`: one more byte
-pub write-turn : (s₀ s : List ℕ) (at n x j v : ℕ) → at + n ≤ length s₀ → j < n → s ≡ paste s₀ at (octets n x) j → v ≡ x / 2 ^ (8 * (n - 1 - j)) % 256
+pub write-bytes-turn : (s₀ s : List ℕ) (at n x j v : ℕ) → at + n ≤ length s₀ → j < n → s ≡ paste s₀ at (octets n x) j → v ≡ x / 2 ^ (8 * (n - 1 - j)) % 256
     → set s (at + j) v ≡ paste s₀ at (octets n x) (j + 1)
-write-turn s₀ s at n x j v g h e f =
+write-bytes-turn s₀ s at n x j v g h e f =
     let k : at + j < length s₀ = omega arith in
     let l : j < length (octets n x) = rw length-octets h in
     rw (add-one, e, f, ← getD-octets n x j h) (paste-suc s₀ at (octets n x) j 0 k l)
@@ -145,8 +145,8 @@ module _ {s : List ℕ} (at w : ℕ) {v : ℕ} (b : Bytes s) (pre : (at + w ≤ 
       lt-of-lt-of-le (joined-lt (at / 8) (at % 8) w spare span b (omega arith) (omega arith) (pre .3) (omega arith))
       (pow-mono {j = 56} (omega arith))
 
-  pub shifted-fits : (getD s (at / 8) 0 / 2 ^ (8 - at % 8) * 2 ^ w + v) * 2 ^ spare < 2 ^ 56
-  shifted-fits =
+  pub filled-fits : (getD s (at / 8) 0 / 2 ^ (8 - at % 8) * 2 ^ w + v) * 2 ^ spare < 2 ^ 56
+  filled-fits =
       lt-of-lt-of-le (shifted-lt (at / 8) (at % 8) w spare span b (omega arith) (omega arith) (pre .3) (omega arith))
       (pow-mono {j = 56} (omega arith))
 

@@ -1,14 +1,11 @@
 -- Laws of two's complement: encoding and decoding undo each other, for one number and for lists of them.
--- Assumes nothing.
 use mathlib.Core.Path.{_≡_, refl, sym, ap, _∙_}
 use mathlib.Core.List.{List, [], _∷_, _++_, map, map-append}
 use mathlib.Core.Bool.{true, false}
-use mathlib.Core.Logic.{_⊎_, inl, inr, ⊎-elim}
+use mathlib.Core.Logic.{⊎-elim}
 use Prim.Native.Nat.{ℕ, zero, suc, _+_, _-_, _*_, _%_, _^_, _<_, _≤_, min}
-use native.Mathlib.Decide.{decLt}
-use native.Mathlib.Nat.{lt-of-lt-of-le, mod-eq-of-lt, mod-lt, two-pow-succ, zero-add}
+use native.Mathlib.Nat.{lt-of-lt-of-le, mod-eq-of-lt, mod-lt, two-pow-succ}
 use native.Mathlib.Omega.{arith}
-use mir.Facts.{toZ-ofZ}
 use mir.Syntax.{w64}
 use mir.Val.{SFits, toZ, ofZ}
 use borrow.Author.Needs.{sfits-of}
@@ -18,11 +15,14 @@ use lib.ListN.{length, take, getD, replicate, length-map, length-take, List·get
 use lib.Pow.{pow-mono, pow-pos}
 use lib.Pow as Pow
 use lib.Seq.{getD-take}
-use lib.Signed.{mag, ltZ, nonNeg}
-use Rattle.bitfields.specs.Layout.{Field, Fit, none, more, each, Bytes, bits, write, field, fields, run}
-use Rattle.bitfields.specs.Twos.{encode, decode, complement, Fits, fitsb, AllFit, numbers}
-use Rattle.bitfields.proofs.Reading.{field-lt, fields-replicate, fit-fields, getD-run, length-run, run-suc}
-use Rattle.bitfields.proofs.RoundTrip.{run-after}
+use lib.Signed.{mag, ltZ}
+use Rattle.bitfields.specs.Layout.{Field, Fit, none, more, each, Bytes, bits, write, field, fields, values-from}
+use Rattle.bitfields.specs.Twos.{encode, decode, Fits, fitsb, AllFit, numbers}
+use Rattle.bitfields.proofs.Reading.{field-lt, fields-replicate, fit-fields, getD-values-from, length-values-from, values-from-suc}
+use Rattle.bitfields.proofs.RoundTrip.{values-from-after}
+use Rattle.bitfields.specs.RoundTrips.{EncodeDecode, EncodeFits, DecodeEncode, DecodeFits}
+use Rattle.integers.proofs.Machine.{i64-kept}
+use Rattle.integers.proofs.Maximum.{le-or-lt}
 
 -- ---- one number
 
@@ -30,9 +30,6 @@ halves : (w : ℕ) → 0 < w → 2 ^ w ≡ 2 ^ (w - 1) + 2 ^ (w - 1)
 halves w p =
     let e : suc (w - 1) ≡ w = omega arith in
     rw e at (two-pow-succ (w - 1))
-
-lt-or-le : (a b : ℕ) → (a < b) ⊎ (b ≤ a)
-lt-or-le a b = elim (decLt a b) [ yes l ↦ inl l | no g ↦ inr (omega arith) ]
 
 -- below half of 2 ^ w, and from there on
 pub decode-low : (w x : ℕ) → x < 2 ^ (w - 1) → decode w x ≡ pos x
@@ -52,9 +49,9 @@ above : (a b : ℕ) → b ≤ a → pos a -ℤ pos b ≡ pos (a - b)
 above a zero h = let e : a - 0 ≡ a = omega arith in rw e (+ℤ-idr (pos a))
 above a (suc m) h = rw (le-ltb a (suc m) h)
 
--- x and half of 2 ^ w, taken round, less the half
+-- x plus half of 2 ^ w, modulo 2 ^ w, less the half
 pub decode-round : (w x : ℕ) → 0 < w → x < 2 ^ w → pos ((x + 2 ^ (w - 1)) % 2 ^ w) -ℤ pos (2 ^ (w - 1)) ≡ decode w x
-decode-round w x p h = ⊎-elim low high (lt-or-le x (2 ^ (w - 1)))
+decode-round w x p h = ⊎-elim high low (le-or-lt (2 ^ (w - 1)) x)
   where
     low : x < 2 ^ (w - 1) → pos ((x + 2 ^ (w - 1)) % 2 ^ w) -ℤ pos (2 ^ (w - 1)) ≡ decode w x
     low l =
@@ -70,7 +67,7 @@ decode-round w x p h = ⊎-elim low high (lt-or-le x (2 ^ (w - 1)))
         let d : 2 ^ (w - 1) - suc y ≡ 2 ^ w - suc x = omega (arith, halves w p) in
         rw (e, Pow.low 1 w o, below y (2 ^ (w - 1)) (omega (arith, halves w p)), d) (sym (decode-high w x l))
 
-pub decode-encode : {w : ℕ} {z : ℤ} → 0 < w → Fits w z → decode w (encode w z) ≡ z
+pub decode-encode : {w : ℕ} {z : ℤ} → EncodeDecode w z
 unfolding encode
 decode-encode {w} {z = pos n} p h = decode-low w n (h .size)
 decode-encode {w} {z = negsuc n} p h =
@@ -78,25 +75,25 @@ decode-encode {w} {z = negsuc n} p h =
     let y : 2 ^ w - suc (2 ^ w - suc n) ≡ n = omega arith in
     decode-high w (2 ^ w - suc n) (omega arith) ∙ ap negsuc y
 
-pub encode-lt : {w : ℕ} {z : ℤ} → 0 < w → Fits w z → encode w z < 2 ^ w
+pub encode-lt : {w : ℕ} {z : ℤ} → EncodeFits w z
 unfolding encode
 encode-lt {w} {z = pos n} p h = omega (arith, halves w p, h .size)
 encode-lt {w} {z = negsuc n} p h = omega (arith, halves w p, h .size)
 
-pub encode-decode : (w x : ℕ) → x < 2 ^ w → encode w (decode w x) ≡ x
+pub encode-decode : (w x : ℕ) → DecodeEncode w x
 unfolding encode
 encode-decode w x h =
     ⊎-elim
-    (λ (l : x < 2 ^ (w - 1)). rw (decode-low w x l))
     (λ (g : 2 ^ (w - 1) ≤ x). rw (decode-high w x g) (omega arith))
-    (lt-or-le x (2 ^ (w - 1)))
+    (λ (l : x < 2 ^ (w - 1)). rw (decode-low w x l))
+    (le-or-lt (2 ^ (w - 1)) x)
 
-pub decode-fits : (w x : ℕ) → 0 < w → x < 2 ^ w → Fits w (decode w x)
+pub decode-fits : (w x : ℕ) → DecodeFits w x
 decode-fits w x p h =
     ⊎-elim
-    (λ (l : x < 2 ^ (w - 1)). rw (decode-low w x l) (record { size = l }))
     (λ (g : 2 ^ (w - 1) ≤ x). rw (decode-high w x g) (record { size = omega (arith, halves w p) }))
-    (lt-or-le x (2 ^ (w - 1)))
+    (λ (l : x < 2 ^ (w - 1)). rw (decode-low w x l) (record { size = l }))
+    (le-or-lt (2 ^ (w - 1)) x)
 
 -- the test and the fact
 pub fitsb-true : (w : ℕ) (z : ℤ) → fitsb w z ≡ true → Fits w z
@@ -106,9 +103,6 @@ fitsb-true w z h = record { size = ltb-true (mag z) (2 ^ (w - 1)) h }
 pub fits-fitsb : {w : ℕ} {z : ℤ} → Fits w z → fitsb w z ≡ true
 unfolding fitsb
 fits-fitsb {w} {z} h = lt-ltb (mag z) (2 ^ (w - 1)) (h .size)
-
-pub fitsb-false : (w : ℕ) (z : ℤ) → fitsb w z ≡ false → Fits w z → ⊥
-fitsb-false w z e h = let y = fits-fitsb h in let z : _≡_ {A = ℕ} 0 1 = cc in omega arith
 
 -- ---- lists
 
@@ -141,59 +135,40 @@ fit-encodes {zs = z ∷ zs} p h = more (encode-lt p (head-fits h)) (fit-encodes 
 -- ---- the numbers of a byte list
 
 pub length-numbers : (s : List ℕ) (at w n : ℕ) → length (numbers s at w n) ≡ n
-length-numbers s at w n = length-map (run s at w n) (decode w) ∙ length-run s at w n
+length-numbers s at w n = length-map (values-from s at w n) (decode w) ∙ length-values-from s at w n
 
 pub getD-numbers : (s : List ℕ) (at w n i : ℕ) → i < n → getD (numbers s at w n) i (pos 0) ≡ decode w (field s (at + w * i) w)
 getD-numbers s at w n i h =
     ap (getD (numbers s at w n) i) (sym (decode-low w 0 (pow-pos (w - 1))))
-    ∙ List·getD-map (decode w) (run s at w n) i 0
-    ∙ ap (decode w) (getD-run s at w n i h)
+    ∙ List·getD-map (decode w) (values-from s at w n) i 0
+    ∙ ap (decode w) (getD-values-from s at w n i h)
 
 pub numbers-suc : (s : List ℕ) (at w n : ℕ) → numbers s at w (suc n) ≡ numbers s at w n ++ (decode w (field s (at + w * n) w) ∷ [])
-numbers-suc s at w n = ap (map (decode w)) (run-suc s at w n) ∙ map-append _ (run s at w n) _
+numbers-suc s at w n = ap (map (decode w)) (values-from-suc s at w n) ∙ map-append _ (values-from s at w n) _
 
-pub numbers-fit : (s : List ℕ) (at w n : ℕ) → 0 < w → AllFit w (numbers s at w n)
-numbers-fit s at w n p = record {
+pub numbers-all-fit : (s : List ℕ) (at w n : ℕ) → 0 < w → AllFit w (numbers s at w n)
+numbers-all-fit s at w n p = record {
   each-fits = λ i l.
       rw (getD-numbers s at w n i (rw (length-numbers s at w n) at l)) (decode-fits w _ p (field-lt s (at + w * i) w));
 }
 
 pub fields-numbers : (s : List ℕ) (at w n : ℕ) → fields s at (replicate n w) ≡ each w (map (encode w) (numbers s at w n))
 fields-numbers s at w n =
-    rw (encode-decodes w (run s at w n) (rw (fields-replicate s at w n) at (fit-fields s at (replicate n w))))
+    rw (encode-decodes w (values-from s at w n) (rw (fields-replicate s at w n) at (fit-fields s at (replicate n w))))
     (fields-replicate s at w n)
 
 -- numbers that were written after other fields are read
 pub numbers-after : {fs : List Field} {w : ℕ} {zs : List ℤ} {t : List ℕ} → 0 < w → Fit fs → AllFit w zs → Bytes t
     → numbers (write (fs ++ each w (map (encode w) zs)) ++ t) (bits fs) w (length zs) ≡ zs
 numbers-after {fs} {w} {zs} {t} p h g k =
-    let e = run-after w (map (encode w) zs) h (fit-encodes p g) k in
+    let e = values-from-after w (map (encode w) zs) h (fit-encodes p g) k in
     ap (map (decode w)) (rw (length-map zs (encode w)) at e) ∙ decode-encodes p g
 
 -- ---- by the sign and `mag`, as the code has it
 
-pub minus-complement : (z : ℤ) → negsuc 0 -ℤ z ≡ complement z
-minus-complement (pos zero) = refl
-minus-complement (pos (suc n)) = ap negsuc (ap suc (zero-add n))
-minus-complement (negsuc n) =
-    let e : suc n - 1 ≡ n = omega arith in
-    rw (le-ltb (suc n) 1 (omega arith), e)
-
-pub mag-complement : (z : ℤ) → mag (complement z) ≡ mag z
-mag-complement (pos n) = refl
-mag-complement (negsuc n) = refl
-
-pub natAbs-mag : (z : ℤ) → nonNeg z ≡ true → natAbs z ≡ mag z
+pub natAbs-mag : (z : ℤ) → ltZ z (pos 0) ≡ false → natAbs z ≡ mag z
 natAbs-mag (pos n) h = refl
 natAbs-mag (negsuc n) h = let e : _≡_ {A = ℕ} 0 1 = cc in absurd (omega arith)
-
-pub negative : (z : ℤ) → ltZ z (pos 0) ≡ true → nonNeg (complement z) ≡ true
-negative (pos n) h = let l = ltb-true n 0 h in absurd (omega arith)
-negative (negsuc n) h = refl
-
-pub not-negative : (z : ℤ) → ltZ z (pos 0) ≡ false → nonNeg z ≡ true
-not-negative (pos n) h = refl
-not-negative (negsuc n) h = let e : _≡_ {A = ℕ} 0 1 = cc in absurd (omega arith)
 
 pub encode-negative : (w : ℕ) (z : ℤ) → ltZ z (pos 0) ≡ true → 2 ^ w - 1 - mag z ≡ encode w z
 unfolding encode
@@ -207,10 +182,6 @@ encode-not-negative w (negsuc n) h = let e : _≡_ {A = ℕ} 0 1 = cc in absurd 
 
 pub mag-le : {w : ℕ} {z : ℤ} → 0 < w → Fits w z → mag z ≤ 2 ^ w - 1
 mag-le {w} p h = omega (arith, halves w p, h .size)
-
--- a word that is in range is what its bits stand for
-pub plain : (z : ℤ) → mag z < 2 ^ 63 → toZ w64 (ofZ w64 z) ≡ z
-plain z h = toZ-ofZ {w = w64} (sfits-of h)
 
 -- a number of at most 48 bits is in range
 pub in-word : {w : ℕ} {z : ℤ} → w ≤ 48 → Fits w z → mag z < 2 ^ 63
@@ -234,10 +205,10 @@ module _ (w x : ℕ) (p : 0 < w) (k : w ≤ 48) (h : x < 2 ^ w) where
   module _ (a b : ℤ) (ea : a ≡ pos ((x + 2 ^ (w - 1)) % 2 ^ w)) (eb : b ≡ pos (2 ^ (w - 1))) where
     difference-is : toZ w64 (ofZ w64 a) -ℤ toZ w64 (ofZ w64 b) ≡ decode w x
     difference-is =
-        rw (ea, eb, plain (pos ((x + 2 ^ (w - 1)) % 2 ^ w)) round-small, plain (pos (2 ^ (w - 1))) half-small) (decode-round w x p h)
+        rw (ea, eb, i64-kept (pos ((x + 2 ^ (w - 1)) % 2 ^ w)) round-small, i64-kept (pos (2 ^ (w - 1))) half-small) (decode-round w x p h)
 
     pub difference-fits : SFits w64 (toZ w64 (ofZ w64 a) -ℤ toZ w64 (ofZ w64 b))
     difference-fits = rw difference-is (sfits-of decode-word)
 
     pub difference-read : toZ w64 (ofZ w64 (toZ w64 (ofZ w64 a) -ℤ toZ w64 (ofZ w64 b))) ≡ decode w x
-    difference-read = rw difference-is (plain (decode w x) decode-word)
+    difference-read = rw difference-is (i64-kept (decode w x) decode-word)

@@ -1,5 +1,5 @@
--- Laws of written bytes: their length and fill, and that writing a list of fields is writing its parts one after the other.
--- Assumes nothing.
+-- Laws of written bytes: their length and fill, and that writing a list of fields is writing its parts one
+-- after the other.
 use mathlib.Core.Path.{_≡_, sym, ap, _∙_}
 use mathlib.Core.List.{List, [], _∷_, _++_}
 use Prim.Native.Nat.{ℕ, _+_, _-_, _*_, _^_, _<_, _≤_}
@@ -9,9 +9,10 @@ use lib.Arith.{digits-lt}
 use lib.ListN.{length, take, drop, length-append, length-drop}
 use lib.Pow.{pow-add, shl-lt, shl-shr}
 use lib.Seq.{drop-append-add, drop-at, drop-drop, take-at}
-use Rattle.bitfields.specs.Layout.{Field, bits, number, widths, Fit, bytes-for, fill, number8, Bytes, field, Framed, pack, write, put, written}
-use Rattle.bitfields.proofs.Spelling.{bits-append, bits-one, bytes-append, bytes-drop, bytes-octets, length-octets, number-append, number-lt, number-one, number8-octets, sum-widths}
+use Rattle.bitfields.specs.Layout.{Field, bits, number, Fit, bytes-for, fill, number8, Bytes, field, pack, write, put, written}
+use Rattle.bitfields.proofs.Spelling.{bits-append, bits-one, bytes-drop, bytes-octets, length-octets, number-append, number-lt, number-one, number8-octets, total-width-widths}
 use Rattle.bitfields.proofs.Reading.{field-append-front, field-lt}
+use Rattle.bitfields.specs.RoundTrips.{FieldsFramed}
 
 -- ---- the bytes of b bits
 
@@ -53,10 +54,10 @@ length-write fs = length-pack (bits fs) (number fs)
 pub bytes-write : (fs : List Field) → Bytes (write fs)
 bytes-write fs = bytes-pack (bits fs) (number fs)
 
-pub write-framed : {fs : List Field} → Fit fs → Framed (widths fs) (write fs)
+pub write-framed : {fs : List Field} → FieldsFramed fs
 write-framed {fs} h = record {
-  size = rw (sum-widths fs) (length-write fs);
-  zeros = rw (sum-widths fs) (fill-pack (bits fs) (number-lt h));
+  size = rw (total-width-widths fs) (length-write fs);
+  zeros = rw (total-width-widths fs) (fill-pack (bits fs) (number-lt h));
 }
 
 -- ---- fields put into a buffer
@@ -64,10 +65,6 @@ write-framed {fs} h = record {
 pub length-put : (s : List ℕ) (at : ℕ) (fs : List Field) → at + bits fs ≤ 8 * length s → length (put s at fs) ≡ length s
 unfolding put
 length-put s at fs h = rw (length-append, length-pack, length-drop) (omega arith)
-
-pub bytes-put : {s : List ℕ} (at : ℕ) (fs : List Field) → Bytes s → Bytes (put s at fs)
-unfolding put
-bytes-put at fs k = bytes-append (bytes-pack _ _) (bytes-drop (bytes-for (at + bits fs)) k)
 
 -- the bits up to the fields and theirs
 pub field-put : {s : List ℕ} (at : ℕ) {fs : List Field} → Bytes s → Fit fs → field (put s at fs) 0 (at + bits fs) ≡ field s 0 at * 2 ^ bits fs + number fs
@@ -98,9 +95,9 @@ put-append {s} at {fs} gs k h =
     regroup q v m w b = simp (pow-add, add-mul, mul-assoc, add-assoc)
 
 -- fields side by side are one field
-pub put-one : (s : List ℕ) (at : ℕ) (fs : List Field) → put s at ((bits fs, number fs) ∷ []) ≡ put s at fs
+pub put-joined : (s : List ℕ) (at : ℕ) (fs : List Field) → put s at ((bits fs, number fs) ∷ []) ≡ put s at fs
 unfolding put
-put-one s at fs = rw (bits-one, number-one)
+put-joined s at fs = rw (bits-one, number-one)
 
 -- ---- a buffer with the fields at its front
 
@@ -116,9 +113,6 @@ put-written {s} {fs} gs k h =
 
 pub length-written : (s : List ℕ) (fs : List Field) → bits fs ≤ 8 * length s → length (written s fs) ≡ length s
 length-written s fs h = rw (← put-zero s fs) (length-put s 0 fs (omega arith))
-
-pub bytes-written : {s : List ℕ} (fs : List Field) → Bytes s → Bytes (written s fs)
-bytes-written {s} fs k = rw (← put-zero s fs) (bytes-put 0 fs k)
 
 pub take-written : (s : List ℕ) (fs : List Field) → take (bytes-for (bits fs)) (written s fs) ≡ write fs
 unfolding written

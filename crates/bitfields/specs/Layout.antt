@@ -1,6 +1,6 @@
--- Bit fields of a byte list, most significant bit first: what number a list of fields spells, which bytes hold it, and which
--- fields a byte list has. Cited by the contracts of `src/lib.rt` and by every crate that reads or writes a format.
--- A format is a list of widths and no more; the bits go by way of one number, so that a field is a quotient and a remainder. Assumes nothing.
+-- Bit fields of a byte list, most significant bit first: what number a list of fields spells, which bytes
+-- hold it, and which fields a byte list has. A format is a list of widths and no more; the bits go by way of
+-- one number, so that a field is a quotient and a remainder.
 use mathlib.Core.Path.{_≡_}
 use mathlib.Core.List.{List, [], _∷_, _++_, map}
 use Prim.Native.Nat.{ℕ, zero, suc, _+_, _-_, _*_, _/_, _%_, _^_, _<_}
@@ -26,9 +26,9 @@ number (f ∷ fs) = f .1 * 2 ^ bits fs + number fs
 abbrev pub widths : List Field → List ℕ
 widths fs = map (λ (f : Field). f .0) fs
 
-unfoldable pub sum : List ℕ → ℕ
-sum [] = 0
-sum (w ∷ ws) = w + sum ws
+unfoldable pub total-width : List ℕ → ℕ
+total-width [] = 0
+total-width (w ∷ ws) = w + total-width ws
 
 -- Each value fits its width: nothing runs over into the field before it.
 pub data Fit : List Field → Type 0 where
@@ -57,44 +57,44 @@ octets (suc n) x = x / 2 ^ (8 * n) % 2 ^ 8 ∷ octets n x
 abbrev pub number8 : List ℕ → ℕ
 number8 s = number (each 8 s)
 
--- Every element is a byte. Put by index, 0 past the end, as the contents of a slice are known; a record, so that s is inferred.
+-- Every element is a byte. Put by index, 0 past the end, as the contents of a slice are known.
 pub record Bytes (s : List ℕ) : Type 0 where
   pub byte : (i : ℕ) → getD s i 0 < 256
 
 -- ---- reading
 
--- The field of w bits at bit `at` of s, for at + w at most the bits of s: what is behind it is divided away, what is before it is cut off.
-unfoldable pub field : List ℕ → ℕ → ℕ → ℕ
+-- The field of w bits at the bit `at` of s: what is behind it is divided away, what is before it is cut off.
+unfoldable pub field : (s : List ℕ) (at w : ℕ) → ℕ
 field s at w = number8 s / 2 ^ (8 * length s - (at + w)) % 2 ^ w
 
--- The fields of the widths ws, one after the other from bit `at` on.
-unfoldable pub fields : List ℕ → ℕ → List ℕ → List Field
+-- The fields of the widths ws, one after the other from the bit `at` on.
+unfoldable pub fields : (s : List ℕ) (at : ℕ) (ws : List ℕ) → List Field
 fields s at [] = []
 fields s at (w ∷ ws) = (w, field s at w) ∷ fields s (at + w) ws
 
--- The n values of w bits from bit `at` on.
-unfoldable pub run : List ℕ → ℕ → ℕ → ℕ → List ℕ
-run s at w zero = []
-run s at w (suc n) = field s at w ∷ run s (at + w) w n
+-- The n values of w bits from the bit `at` on.
+unfoldable pub values-from : (s : List ℕ) (at w n : ℕ) → List ℕ
+values-from s at w zero = []
+values-from s at w (suc n) = field s at w ∷ values-from s (at + w) w n
 
 -- s is as long as the widths demand, and the bits left over in its last byte are 0.
 pub record Framed (ws s : List ℕ) : Type 0 where
-  pub size : length s ≡ bytes-for (sum ws)
-  pub zeros : field s (sum ws) (fill (sum ws)) ≡ 0
+  pub size : length s ≡ bytes-for (total-width ws)
+  pub zeros : field s (total-width ws) (fill (total-width ws)) ≡ 0
 
 -- ---- writing
 
 -- The bytes of b bits that spell x, with zeros to the byte.
-unfoldable pub pack : ℕ → ℕ → List ℕ
+unfoldable pub pack : (b x : ℕ) → List ℕ
 pack b x = octets (bytes-for b) (x * 2 ^ fill b)
 
 -- The bytes of the fields.
 abbrev pub write : List Field → List ℕ
 write fs = pack (bits fs) (number fs)
 
--- s with its first `at` bits kept, then the fields, zeros to the byte, and the bytes past that kept. Put over a list of fields, so that
--- one definition is a field written, all fields written, and every state between.
-unfoldable pub put : List ℕ → ℕ → List Field → List ℕ
+-- s with its first `at` bits kept, then the fields, zeros to the byte, and the bytes past that kept. Put over
+-- a list of fields, so that one definition is a field written, all fields written, and every state between.
+unfoldable pub put : (s : List ℕ) (at : ℕ) (fs : List Field) → List ℕ
 put s at fs = pack (at + bits fs) (field s 0 at * 2 ^ bits fs + number fs) ++ drop (bytes-for (at + bits fs)) s
 
 -- A buffer s with the bytes of the fields at its front, and its own bytes past them.

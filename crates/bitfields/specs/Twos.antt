@@ -1,5 +1,5 @@
--- Whole numbers with a sign in w bits, by two's complement. Cited by the contracts of `src/lib.rt` and by the formats that hold
--- such numbers. `mag z` is n both for n and for -(n + 1), so that a range is one bound. Assumes nothing.
+-- Whole numbers with a sign in w bits, by two's complement. `mag z` is n both for n and for -(n + 1), so that
+-- a range is one bound.
 use mathlib.Core.List.{List, map}
 use mathlib.Core.Bool.{Bool, cond}
 use Prim.Native.Nat.{ℕ, suc, _-_, _^_, _<_}
@@ -7,7 +7,7 @@ use lib.IntN.{ℤ, pos, negsuc}
 use lib.Signed.{mag}
 use lib.Dec.{ltb}
 use lib.ListN.{length, getD}
-use Rattle.bitfields.specs.Layout.{run}
+use Rattle.bitfields.specs.Layout.{values-from}
 
 -- The w bits that stand for z: a negative z is counted back from 2 ^ w.
 unfoldable pub encode : ℕ → ℤ → ℕ
@@ -15,19 +15,13 @@ encode w (pos n) = n
 encode w (negsuc n) = 2 ^ w - suc n
 
 -- The number that the w bits x stand for: from 2 ^ (w - 1) on it is negative.
-unfoldable pub decode : ℕ → ℕ → ℤ
+unfoldable pub decode : (w x : ℕ) → ℤ
 decode w x = cond (ltb x (2 ^ (w - 1))) (pos x) (negsuc (2 ^ w - suc x))
 
--- -1 - z, which has all bits of z flipped. It changes the sign and keeps `mag`.
-abbrev pub complement : ℤ → ℤ
-complement (pos n) = negsuc n
-complement (negsuc n) = pos n
-
--- z can be held in w bits, from -(2 ^ (w - 1)) to 2 ^ (w - 1) - 1. A record, so that w and z are inferred.
+-- z can be held in w bits, from -(2 ^ (w - 1)) to 2 ^ (w - 1) - 1. And the same as a test.
 pub record Fits (w : ℕ) (z : ℤ) : Type 0 where
   pub size : mag z < 2 ^ (w - 1)
 
--- The same as a test.
 unfoldable pub fitsb : ℕ → ℤ → Bool
 fitsb w z = ltb (mag z) (2 ^ (w - 1))
 
@@ -35,6 +29,6 @@ fitsb w z = ltb (mag z) (2 ^ (w - 1))
 pub record AllFit (w : ℕ) (zs : List ℤ) : Type 0 where
   pub each-fits : (i : ℕ) → i < length zs → Fits w (getD zs i (pos 0))
 
--- The n numbers of w bits from bit `at` of s on.
-abbrev pub numbers : List ℕ → ℕ → ℕ → ℕ → List ℤ
-numbers s at w n = map (decode w) (run s at w n)
+-- The n numbers of w bits from the bit `at` of s on.
+abbrev pub numbers : (s : List ℕ) (at w n : ℕ) → List ℤ
+numbers s at w n = map (decode w) (values-from s at w n)

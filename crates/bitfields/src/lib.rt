@@ -7,28 +7,26 @@
 // last byte that it touches with zeros, and leaves the bytes past that alone.
 //
 // Each contract is an equality with a definition of specs/Layout.antt or specs/Twos.antt. That what
-// was written is read, and what was read is written, is proved in proofs/RoundTrip.antt for every
-// list of widths at once, so that a format's own round trip is a citation; proofs/Spelling.antt,
+// was written is read, and what was read is written, is said in specs/RoundTrips.antt for every list
+// of widths at once, so that a format's own round trip is a citation; proofs/Spelling.antt,
 // Reading.antt, Writing.antt and Twos.antt have the other laws, and Example.antt a worked example.
 ghost use mathlib.Core.Path.{_≡_};
-ghost use mathlib.Core.Bool.{true};
 ghost use mathlib.Core.List.{[], _∷_, _++_, map};
 ghost use Prim.Native.Nat.{_+_, _*_, _^_, _<_, _≤_};
 ghost use lib.Dec.{eqb};
-ghost use lib.IntN.{pos};
 ghost use lib.ListN.{length, take, drop};
-ghost use lib.Signed.{mag, nonNeg};
+ghost use lib.Signed.{mag};
 ghost use Rattle.bitfields.specs.Layout.{bytes-for, fill, number8, octets, field, put, each};
-ghost use Rattle.bitfields.specs.Twos.{encode, decode, complement, Fits, fitsb, AllFit, numbers};
+ghost use Rattle.bitfields.specs.Twos.{encode, decode, Fits, fitsb, AllFit, numbers};
 
 // A byte as a word, and a word that is a byte.
-fn wide(x: u8) -> u64
+fn from_byte(x: u8) -> u64
     ensures { λ r. ⌜ r ≡ x ⌝ }
 {
     x as u64
 }
 
-fn narrow(x: u64) -> u8
+fn to_byte(x: u64) -> u8
     requires { ⌜ x < 256 ⌝ }
     ensures { λ r. ⌜ r ≡ x ⌝ }
 {
@@ -43,7 +41,7 @@ pub fn read_bytes(s: &[u8], at: usize, n: usize) -> u64
     let mut x: u64 = 0;
     let mut j = 0;
     while j < n {
-        x = x * 256 + wide(s[at + j]);
+        x = x * 256 + from_byte(s[at + j]);
         j += 1;
     }
     x
@@ -83,13 +81,14 @@ pub fn write_bytes(s: &mut [u8], at: usize, n: usize, x: u64)
 {
     let mut j = 0;
     while j < n {
-        s[at + j] = narrow((x >> ((8 * (n - 1 - j)) as u64)) % 256);
+        s[at + j] = to_byte((x >> ((8 * (n - 1 - j)) as u64)) % 256);
         j += 1;
     }
 }
 
-// The same. The counts that are most frequent are told one by one: for a known count the compiler makes whole words of the bytes.
-fn put_bytes(s: &mut [u8], at: usize, n: usize, x: u64)
+// The same. The counts that are most frequent are told one by one: for a known count the compiler makes whole
+// words of the bytes.
+fn write_window(s: &mut [u8], at: usize, n: usize, x: u64)
     requires { ⌜ (at + n ≤ length (now s)) × (n ≤ 8) ⌝ }
     ensures { λ _. ⌜ now (s .exit) ≡ take at (now (s .entry)) ++ octets n x ++ drop (at + n) (now (s .entry)) ⌝ }
 {
@@ -104,7 +103,8 @@ fn put_bytes(s: &mut [u8], at: usize, n: usize, x: u64)
     write_bytes(s, at, n, x);
 }
 
-// Puts the w bits of v at the bit `at`: the bits before stay, zeros fill the last byte, and the bytes past it stay.
+// Puts the w bits of v at the bit `at`: the bits before stay, zeros fill the last byte, and the bytes past it
+// stay.
 pub fn write_field(s: &mut [u8], at: usize, w: usize, v: u64)
     requires { ⌜ (at + w ≤ 8 * length (now s)) × (0 < w) × (w ≤ 48) × (v < 2 ^ w) ⌝ }
     ensures { λ _. ⌜ now (s .exit) ≡ put (now (s .entry)) at ((w, v) ∷ []) ⌝ }
@@ -112,41 +112,19 @@ pub fn write_field(s: &mut [u8], at: usize, w: usize, v: u64)
     let k = at / 8;
     let r = at % 8;
     let n = (r + w + 7) / 8;
-    let kept = wide(s[k]) >> ((8 - r) as u64);
+    let kept = from_byte(s[k]) >> ((8 - r) as u64);
     let x = (kept * integers::pow2(w) + v) * integers::pow2(8 * n - (r + w));
-    put_bytes(s, k, n, x);
-}
-
-// A word with no sign as one with a sign, and back.
-fn signed(x: u64) -> i64
-    requires { ⌜ x < 2 ^ 63 ⌝ }
-    ensures { λ r. ⌜ r ≡ pos x ⌝ }
-{
-    x as i64
-}
-
-fn unsigned(z: i64) -> u64
-    requires { ⌜ nonNeg z ≡ true ⌝ }
-    ensures { λ r. ⌜ r ≡ mag z ⌝ }
-{
-    z as u64
-}
-
-// -1 - z: every bit flipped.
-fn flip(z: i64) -> i64
-    ensures { λ r. ⌜ r ≡ complement z ⌝ }
-{
-    -1 - z
+    write_window(s, k, n, x);
 }
 
 // n, of n and of -(n + 1): the bits of z beside its sign.
-fn magnitude(z: i64) -> u64
+fn bits_beside_sign(z: i64) -> u64
     ensures { λ r. ⌜ r ≡ mag z ⌝ }
 {
     if z < 0 {
-        unsigned(flip(z))
+        integers::to_unsigned(-1 - z)
     } else {
-        unsigned(z)
+        integers::to_unsigned(z)
     }
 }
 
@@ -155,32 +133,34 @@ pub fn fits(z: i64, w: usize) -> bool
     requires { ⌜ (0 < w) × (w ≤ 48) ⌝ }
     ensures { λ r. ⌜ r ≡ fitsb w z ⌝ }
 {
-    magnitude(z) < integers::pow2(w - 1)
+    bits_beside_sign(z) < integers::pow2(w - 1)
 }
 
-// The number that the w bits of x stand for: x, less 2 ^ w where its first bit is set. That is x and half of 2 ^ w, taken round, less the half:
-// there is no branch, since signs cannot be foreseen.
-pub fn to_signed(x: u64, w: usize) -> i64
+// The number that the w bits of x stand for: x, less 2 ^ w where its first bit is set. That is x plus half of
+// 2 ^ w, modulo 2 ^ w, less the half: there is no branch, since signs cannot be foreseen.
+pub fn decode(x: u64, w: usize) -> i64
     requires { ⌜ (0 < w) × (w ≤ 48) × (x < 2 ^ w) ⌝ }
     ensures { λ r. ⌜ r ≡ decode w x ⌝ }
 {
     let half = integers::pow2(w - 1);
-    signed((x + half) % integers::pow2(w)) - signed(half)
+    integers::to_signed((x + half) % integers::pow2(w)) - integers::to_signed(half)
 }
 
 // The w bits that stand for z.
-pub fn to_bits(z: i64, w: usize) -> u64
+pub fn encode(z: i64, w: usize) -> u64
     requires { ⌜ (0 < w) × (w ≤ 48) × Fits w z ⌝ }
     ensures { λ r. ⌜ r ≡ encode w z ⌝ }
 {
     if z < 0 {
-        integers::pow2(w) - 1 - magnitude(z)
+        integers::pow2(w) - 1 - bits_beside_sign(z)
     } else {
-        magnitude(z)
+        bits_beside_sign(z)
     }
 }
 
-// Reads n numbers of w bits from the bit `at` on into the first n words of out; the others stay.
+// Reads n numbers of w bits from the bit `at` on into the first n words of out; the others stay. The bit
+// position is stepped past the last number, so the length of the slice is bounded: 65,536 bytes are more than
+// any format has.
 pub fn read_numbers(s: &[u8], at: usize, w: usize, n: usize, out: &mut [i64])
     requires { ⌜ (at + w * n ≤ 8 * length (now s)) × (n ≤ length (now out)) × (0 < w) × (w ≤ 48) × (length (now s) ≤ 65536) ⌝ }
     ensures { λ _. ⌜ now (out .exit) ≡ numbers (now (s .entry)) at w n ++ drop n (now (out .entry)) ⌝ }
@@ -188,7 +168,7 @@ pub fn read_numbers(s: &[u8], at: usize, w: usize, n: usize, out: &mut [i64])
     let mut p = at;
     let mut i = 0;
     while i < n {
-        out[i] = to_signed(read_field(s, p, w), w);
+        out[i] = decode(read_field(s, p, w), w);
         p += w;
         i += 1;
     }
@@ -202,7 +182,7 @@ pub fn write_numbers(dst: &mut [u8], at: usize, w: usize, nums: &[i64])
     let mut p = at;
     let mut i = 0;
     while i < nums.len() {
-        write_field(dst, p, w, to_bits(nums[i], w));
+        write_field(dst, p, w, encode(nums[i], w));
         p += w;
         i += 1;
     }
@@ -213,5 +193,5 @@ pub fn fill_is_zero(s: &[u8], b: usize) -> bool
     requires { ⌜ (bytes-for b ≡ length (now s)) × (0 < b) ⌝ }
     ensures { λ r. ⌜ r ≡ eqb (field (now (s .entry)) b (fill b)) 0 ⌝ }
 {
-    wide(s[s.len() - 1]) % integers::pow2((8 - b % 8) % 8) == 0
+    from_byte(s[s.len() - 1]) % integers::pow2((8 - b % 8) % 8) == 0
 }

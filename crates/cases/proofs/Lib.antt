@@ -1,2 +1,3 @@
+pub mod Holds
 pub mod Values
 pub mod Compare

@@ -10,15 +10,13 @@ use borrow.Author.Tests.{eq-eqb}
 use lib.IntN.{ℤ, pos, negsuc, _-ℤ_, _*ℤ_}
 use lib.ListN.{length}
 use Rattle.integers.specs.Flat.{at}
-use Rattle.integers.specs.Maximum.{below-suc}
-use Rattle.integers.specs.Product.{dot}
-use Rattle.integers.specs.Sum.{sum}
-use Rattle.bitfields.specs.Layout.{field, number, bits, run}
+use Rattle.integers.proofs.Maximum.{below-suc}
+use Rattle.integers.specs.Sum.{dot, sum}
+use Rattle.bitfields.specs.Layout.{field, number, bits, values-from}
 use Rattle.bitfields.specs.Twos.{decode}
-use Rattle.job.specs.System.{curve-entry, system-entry, matrix, right-side}
+use Rattle.system.specs.System.{curve-entry, system-entry, matrix, right-side}
 use Rattle.accuracy.specs.Accuracy.{order, unit-of, G, b}
-use Rattle.cases.specs.Table.{Case, table}
-use Rattle.cases.specs.Values.{Exact, ValuesExact}
+use Rattle.cases.specs.Table.{Case, table, Exact, ValuesExact}
 
 -- ---- tests over whole numbers, over the indices below n and over a list
 
@@ -98,9 +96,8 @@ module _ (c : Case) where
 -- ---- every case
 
 all-pass : T (every case-test table)
-unfolding table dot sum field number bits run decode curve-entry system-entry matrix right-side
+unfolding table dot sum field number bits values-from decode curve-entry system-entry matrix right-side
 all-pass = tt
 
 pub values-hold : ValuesExact
-unfolding ValuesExact
 values-hold c m e = exact c (rw (eq-eqb (c .outcome .refusal) 0 e) at (among case-test table all-pass c m))

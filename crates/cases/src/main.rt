@@ -10,9 +10,24 @@ ghost use mathlib.Core.Path.{_≡_};
 ghost use mathlib.Core.Bool.{true};
 ghost use Prim.Native.Nat.{_+_, _≤_, _<_};
 ghost use lib.IntN.{pos};
-ghost use Rattle.integers.specs.Flat.{at};
-ghost use Rattle.cases.specs.Words.{Said, Listed};
+ghost use Rattle.cases.specs.Words.{word-at, Said, Listed};
 use state::State;
+use table::LINE;
+use table::Lines;
+use table::WORDS;
+
+// The bytes of the longest frame and of the longest trace, the most numbers of a frame, and the digits that a
+// state has room for, 60 steps of 16 rows.
+const FRAME_BYTES: usize = 1431;
+
+const TRACE_BYTES: usize = 604;
+
+const NUMBERS: usize = 272;
+
+const DIGITS: usize = 960;
+
+// Past every word of the table: no place goes on from there.
+const FAR: usize = 10000;
 
 // What differs first between a run and its row.
 enum Part {
@@ -26,14 +41,18 @@ enum Part {
 }
 
 // The word at a place, and 0 past the last.
-fn word(t: &[i64], place: usize) -> i64
-    ensures { λ r. ⌜ r ≡ at (now (t .entry)) place ⌝ }
+fn word(t: &Lines, place: usize) -> i64
+    ensures { λ r. ⌜ r ≡ word-at (now (t .entry)) place ⌝ }
 {
-    if place < t.len() { t[place] } else { 0 }
+    if place < WORDS {
+        t[place / LINE][place % LINE]
+    } else {
+        0
+    }
 }
 
-// A natural number as one with a sign.
-fn signed(n: usize) -> i64
+// A natural number as a word.
+fn word_of(n: usize) -> i64
     requires { ⌜ n ≤ 1431 ⌝ }
     ensures { λ r. ⌜ r ≡ pos n ⌝ }
 {
@@ -52,46 +71,31 @@ fn natural(z: i64) -> usize
 }
 
 // Whether the word at a place is the number n.
-fn says(t: &[i64], place: usize, n: usize) -> bool
+fn says(t: &Lines, place: usize, n: usize) -> bool
     ensures { λ r. ⌜ (r ≡ true → Said (now (t .entry)) place n) ⌝ }
 {
-    n <= 1431 && word(t, place) == signed(n)
+    n <= FRAME_BYTES && word(t, place) == word_of(n)
 }
 
 // How many words follow, by the word at a place.
-fn size(t: &[i64], place: usize) -> usize
+fn size(t: &Lines, place: usize) -> usize
     ensures { λ r. ⌜ r ≤ 1431 ⌝ }
 {
     natural(word(t, place))
 }
 
 // The place after a list, which starts with its size.
-fn past(t: &[i64], place: usize) -> usize
+fn past(t: &Lines, place: usize) -> usize
     ensures { λ r. ⌜ r ≤ 12000 ⌝ }
 {
-    if 10000 < place {
-        return 10000;
+    if FAR < place {
+        return FAR;
     }
     place + 1 + size(t, place)
 }
 
-// The place after the rows of digits, which start with how many there are.
-fn past_rows(t: &[i64], place: usize) -> usize
-    requires { ⌜ place ≤ 12000 ⌝ }
-    ensures { λ r. ⌜ r ≤ 12001 ⌝ }
-{
-    let n = size(t, place);
-    let mut p = place + 1;
-    let mut i: usize = 0;
-    while i < n {
-        p = past(t, p);
-        i += 1;
-    }
-    p
-}
-
 // Whether the list at a place is the first n numbers of v.
-fn same_list(t: &[i64], place: usize, v: &[i64], n: usize) -> bool
+fn same_list(t: &Lines, place: usize, v: &[i64], n: usize) -> bool
     requires { ⌜ place ≤ 20001 ⌝ }
     ensures { λ r. ⌜ (r ≡ true → Listed (now (t .entry)) place (now (v .entry)) n) ⌝ }
 {
@@ -110,10 +114,10 @@ fn same_list(t: &[i64], place: usize, v: &[i64], n: usize) -> bool
 
 // Whether the refusal and the row at a place are those of the frame reader, and the list after them the
 // numbers that it hands out, none with a refusal.
-fn same_numbers(t: &[i64], place: usize, frame: &[u8]) -> bool
+fn same_numbers(t: &Lines, place: usize, frame: &[u8]) -> bool
     requires { ⌜ place ≤ 12000 ⌝ }
 {
-    let mut v = [0i64; 272];
+    let mut v = [0i64; NUMBERS];
     let a = frame::read_frame(frame, &mut v);
     if !says(t, place, a.refusal) || !says(t, place + 1, a.row) || 16 < a.header.n {
         return false;
@@ -128,14 +132,14 @@ fn same_numbers(t: &[i64], place: usize, frame: &[u8]) -> bool
 fn widened(x: u8) -> i64
     ensures { λ r. ⌜ r ≡ pos x ⌝ }
 {
-    signed(x as usize)
+    word_of(x as usize)
 }
 
 // The bytes of a trace as numbers with a sign.
-fn trace_words(b: &[u8; 604]) -> [i64; 604] {
-    let mut out = [0i64; 604];
+fn trace_words(b: &[u8; TRACE_BYTES]) -> [i64; TRACE_BYTES] {
+    let mut out = [0i64; TRACE_BYTES];
     let mut i: usize = 0;
-    while i < 604 {
+    while i < TRACE_BYTES {
         out[i] = widened(b[i]);
         i += 1;
     }
@@ -143,7 +147,7 @@ fn trace_words(b: &[u8; 604]) -> [i64; 604] {
 }
 
 // The digits of the row i of k steps, and zeros after them.
-fn row_digits(d: &[i8; 960], i: usize, k: usize) -> [i64; 60] {
+fn row_digits(d: &[i8; DIGITS], i: usize, k: usize) -> [i64; 60] {
     let mut out = [0i64; 60];
     if 16 <= i {
         return out;
@@ -159,28 +163,29 @@ fn row_digits(d: &[i8; 960], i: usize, k: usize) -> [i64; 60] {
     out
 }
 
-// Whether the rows at a place are those of the digits, n rows of k steps.
-fn same_digits(t: &[i64], place: usize, d: &[i8; 960], n: usize, k: usize) -> bool
-    requires { ⌜ place ≤ 20000 ⌝ }
+// The place after the rows of digits, where they are those of the state, n rows of k steps, and else 0.
+fn past_same_digits(t: &Lines, place: usize, d: &[i8; DIGITS], n: usize, k: usize) -> usize
+    requires { ⌜ place ≤ 12000 ⌝ }
+    ensures { λ r. ⌜ r ≤ 12001 ⌝ }
 {
     if !says(t, place, n) {
-        return false;
+        return 0;
     }
     let mut p = place + 1;
     let mut i: usize = 0;
     while i < n {
         let row = row_digits(d, i, k);
         if !same_list(t, p, &row, k) {
-            return false;
+            return 0;
         }
         p = past(t, p);
         i += 1;
     }
-    true
+    p
 }
 
 // Whether the list at a place is the readings of the state, none with a refusal.
-fn same_readings(t: &[i64], place: usize, s: State) -> bool
+fn same_readings(t: &Lines, place: usize, s: State) -> bool
     requires { ⌜ place ≤ 20000 ⌝ }
 {
     let mut v = [0i64; 16];
@@ -193,10 +198,10 @@ fn same_readings(t: &[i64], place: usize, s: State) -> bool
 }
 
 // Whether the list at a place is the bytes of the state's trace, none with a refusal.
-fn same_trace(t: &[i64], place: usize, s: State) -> bool
+fn same_trace(t: &Lines, place: usize, s: State) -> bool
     requires { ⌜ place ≤ 20000 ⌝ }
 {
-    let mut out = [0u8; 604];
+    let mut out = [0u8; TRACE_BYTES];
     let r = trace::record_of(s);
     let w = trace::write_trace(r.trace, &mut out);
     let words = trace_words(&out);
@@ -205,7 +210,7 @@ fn same_trace(t: &[i64], place: usize, s: State) -> bool
 
 // What differs first, of a frame and the row whose refusal stands at the place. With a refusal the state is
 // idle: it has no rows and no steps, and no readings and no trace are handed out.
-fn difference(t: &[i64], place: usize, frame: &[u8]) -> Part
+fn difference(t: &Lines, place: usize, frame: &[u8]) -> Part
     requires { ⌜ place ≤ 12000 ⌝ }
 {
     let l = evaluator::load(frame);
@@ -220,11 +225,10 @@ fn difference(t: &[i64], place: usize, frame: &[u8]) -> Part
     }
     let a = evaluator::advance(l.state, 60);
     let s = a.state;
-    let digits = past(t, place + 2);
-    if !same_digits(t, digits, &s.digits, s.header.n, s.k) {
+    let readings = past_same_digits(t, past(t, place + 2), &s.digits, s.header.n, s.k);
+    if readings == 0 {
         return Part::Digits;
     }
-    let readings = past_rows(t, digits);
     if !same_readings(t, readings, s) {
         return Part::Readings;
     }
@@ -240,11 +244,11 @@ fn byte(z: i64) -> u8 {
 }
 
 // The frame at a place, as bytes.
-fn frame_bytes(t: &[i64], place: usize) -> [u8; 1431]
+fn frame_bytes(t: &Lines, place: usize) -> [u8; FRAME_BYTES]
     requires { ⌜ place ≤ 20000 ⌝ }
 {
     let n = size(t, place);
-    let mut out = [0u8; 1431];
+    let mut out = [0u8; FRAME_BYTES];
     let mut i: usize = 0;
     while i < n {
         out[i] = byte(word(t, place + 1 + i));
@@ -285,7 +289,7 @@ fn report(number: usize, d: Part) -> u64
 }
 
 // Runs the case whose row starts at the place, with the number of its words.
-fn run(t: &[i64], place: usize, number: usize) -> u64
+fn run(t: &Lines, place: usize, number: usize) -> u64
     requires { ⌜ place ≤ 12000 ⌝ }
     ensures { λ r. ⌜ r ≤ 1 ⌝ }
 {
@@ -295,43 +299,8 @@ fn run(t: &[i64], place: usize, number: usize) -> u64
     report(number, d)
 }
 
-// Whether the first n bytes of the buffer are the text.
-fn same_text(out: &[u8], n: usize, text: &[u8]) -> bool {
-    if text.len() != n || out.len() < n {
-        return false;
-    }
-    let mut i: usize = 0;
-    while i < n {
-        if out[i] != text[i] {
-            return false;
-        }
-        i += 1;
-    }
-    true
-}
-
-// Whether a frame is printed as the text, in the way of `edigits`.
-fn prints(frame: &[u8], text: &[u8]) -> bool {
-    let mut out = io::large_buffer();
-    let r = printout::print_frame(frame, &mut out);
-    same_text(&out, r.length, text)
-}
-
-// The text of A, as document 01 has it, and that of D, which is refused.
-fn compare_texts() {
-    if !prints(
-        b"\x01\x10\x44\x10\x32\x00",
-        b"0 2 1 4 2 4\n1 0 1\n2 1 0\n3 1 0\n4 -1 0\n= 5 8\n",
-    ) {
-        print_text(b"the text of A differs\n");
-    }
-    if !prints(b"\x01\x10\x44\x14\x32\x00", b"refused 8 1\n") {
-        print_text(b"the text of D differs\n");
-    }
-}
-
 // Runs all cases; how many differ.
-fn run_all(t: &[i64], n: usize) -> u64
+fn run_all(t: &Lines, n: usize) -> u64
     requires { ⌜ n ≤ 1000 ⌝ }
 {
     let mut differ: u64 = 0;
@@ -349,7 +318,6 @@ fn main() {
     let t = table::words();
     let n = table::rows();
     let differ = run_all(&t, n);
-    compare_texts();
     io::print_decimal(1, n as u64);
     print_text(b" cases, ");
     io::print_decimal(1, differ);

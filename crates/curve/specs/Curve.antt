@@ -1,16 +1,15 @@
--- The value of a curve as a fraction P / Q of whole numbers, and what it says of a system (document 01, "The system" and "One step").
--- Proved of every curve in `Value`, spelt out at small orders in `Examples`, and cited wherever a curve's exact value is promised.
+-- The value of a curve as a fraction P / Q of whole numbers, and what is promised of it (document 01, "The
+-- system" and "One step"). proofs/Value.antt proves each statement, proofs/Examples.antt spells them out.
 use mathlib.Core.Path.{_≡_}
 use mathlib.Core.Bool.{Bool, true, false}
 use mathlib.Core.List.{List}
-use Prim.Native.Nat.{ℕ, suc, _-_, _<_}
+use Prim.Native.Nat.{ℕ, suc, _*_, _-_, _<_, _≤_}
 use lib.IntN.{ℤ, pos, _+ℤ_, _*ℤ_}
 use lib.Signed.{_<ℤ_}
-use Rattle.integers.specs.Power.{_^ℤ_}
-use Rattle.integers.specs.Sum.{sum}
+use Rattle.integers.specs.Sum.{_^ℤ_, weight, sum}
 use Rattle.job.specs.Kind.{Kind, polynomial, rational, system, unused}
-use Rattle.job.specs.System.{past-first, argument, numerator, denominator, no-denominator}
-use Rattle.recurrence.specs.System.{Solves}
+use Rattle.system.specs.System.{past-first, curve-entry, argument, numerator, denominator, no-denominator, matrix, right-side}
+use Rattle.recurrence.specs.Equations.{Solves}
 
 -- The numbers x, p_i and q_i are in units of 1/u: they stand for x/u, p_i/u and q_i/u. So the curve is
 --
@@ -21,11 +20,12 @@ use Rattle.recurrence.specs.System.{Solves}
 -- and P and Q are what stands above and below the line, both times u^n, which makes them whole.
 
 -- p_0 u^(n-1) + p_1 x u^(n-2) + .. + p_(n-1) x^(n-1)
-unfoldable pub numerator-value : ℕ → ℤ → (ℕ → ℤ) → ℕ → ℤ
+unfoldable pub numerator-value : (u : ℕ) (x : ℤ) (p : ℕ → ℤ) (n : ℕ) → ℤ
 numerator-value u x p n = sum n (λ i. p i *ℤ x ^ℤ i *ℤ pos u ^ℤ (n - suc i))
 
--- u^n + q_1 x u^(n-2) + .. + q_(n-1) x^(n-1). The u^n is q_0, which is 1 and is not sent; the sum has 0 in its place.
-unfoldable pub denominator-value : ℕ → ℤ → (ℕ → ℤ) → ℕ → ℤ
+-- u^n + q_1 x u^(n-2) + .. + q_(n-1) x^(n-1). The u^n is q_0, which is 1 and is not sent; the sum has 0 in
+-- its place.
+unfoldable pub denominator-value : (u : ℕ) (x : ℤ) (q : ℕ → ℤ) (n : ℕ) → ℤ
 denominator-value u x q n = pos u ^ℤ n +ℤ sum n (λ i. past-first q i *ℤ x ^ℤ i *ℤ pos u ^ℤ (n - suc i))
 
 -- ---- by the kind, for the numbers v at order n
@@ -38,13 +38,13 @@ has-value system = false
 has-value unused = false
 
 -- P and Q
-abbrev pub value-over : Kind → ℕ → ℕ → List ℤ → ℤ
+abbrev pub value-over : (kind : Kind) (n u : ℕ) (v : List ℤ) → ℤ
 value-over polynomial n u v = numerator-value u (argument v) (numerator v) n
 value-over rational n u v = numerator-value u (argument v) (numerator v) n
 value-over system n u v = pos 0
 value-over unused n u v = pos 0
 
-abbrev pub value-under : Kind → ℕ → ℕ → List ℤ → ℤ
+abbrev pub value-under : (kind : Kind) (n u : ℕ) (v : List ℤ) → ℤ
 value-under polynomial n u v = denominator-value u (argument v) no-denominator n
 value-under rational n u v = denominator-value u (argument v) (denominator n v) n
 value-under system n u v = pos 1
@@ -52,8 +52,8 @@ value-under unused n u v = pos 1
 
 -- ---- what is said of a system
 
--- The value of row 1 is P / Q, in the system of order n with matrix G and right-hand sides B, in units of 1/u. Rows count from 0 here, so
--- document 01's row 1 is row 0.
+-- The value of row 1 is P / Q, in the system of order n with matrix G and right-hand sides B, in units of
+-- 1/u. Rows count from 0 here, so document 01's row 1 is row 0.
 pub record CurveValue (n u : ℕ) (G : ℕ → ℕ → ℤ) (B : ℕ → ℤ) (P Q : ℤ) : Type 0 where
   -- P / Q is a fraction
   pub denominator-positive : pos 0 <ℤ Q
@@ -64,3 +64,24 @@ pub record CurveValue (n u : ℕ) (G : ℕ → ℕ → ℤ) (B : ℕ → ℤ) (P
   pub scale : ℕ
   pub scale-positive : 0 < scale
   pub solved : Solves n u scale G B solution
+
+-- Every row weighs at most 1/4, as a light row does. At order 1 the matrix is 0, whatever x is.
+abbrev pub ShortRows : (n u : ℕ) (G : ℕ → ℕ → ℤ) → Type 0
+ShortRows n u G = (i : ℕ) → i < n → 4 * weight n (G i) ≤ u
+
+-- ---- claim C8: row 1 has the curve's value, at every order
+
+-- a rational curve
+abbrev pub RationalValue : Type 0
+RationalValue = (u : ℕ) (x : ℤ) (p q : ℕ → ℤ) (n : ℕ) → 0 < u → 0 < n → ShortRows n u (curve-entry x q) →
+    CurveValue n u (curve-entry x q) p (numerator-value u x p n) (denominator-value u x q n)
+
+-- A polynomial has no denominator: Q is u^n, by which P is made whole, so P / Q is p_0 + p_1 x + .. itself.
+abbrev pub PolynomialValue : Type 0
+PolynomialValue = (u : ℕ) (x : ℤ) (p : ℕ → ℤ) (n : ℕ) → 0 < u → 0 < n → ShortRows n u (curve-entry x no-denominator) →
+    CurveValue n u (curve-entry x no-denominator) p (numerator-value u x p n) (pos u ^ℤ n)
+
+-- the numbers v of every kind that has a value
+abbrev pub KindValue : Type 0
+KindValue = (kind : Kind) (n u : ℕ) (v : List ℤ) → has-value kind ≡ true → 0 < u → 0 < n → ShortRows n u (matrix kind n u v) →
+    CurveValue n u (matrix kind n u v) (right-side kind n v) (value-over kind n u v) (value-under kind n u v)

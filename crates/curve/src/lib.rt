@@ -1,2 +1,2 @@
-// The exact value of a polynomial and of a rational curve. All of it is in specs/: Curve.antt says what is claimed, Value.antt proves it,
-// and Examples.antt spells it out at small orders.
+// The exact value of a polynomial and of a rational curve. There is no code: specs/Curve.antt says what is
+// claimed, proofs/Value.antt proves it, and proofs/Examples.antt spells it out at small orders.

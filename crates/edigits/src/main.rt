@@ -1,11 +1,21 @@
-// edigits: reads one frame from standard input and prints its text. No frame has more than 1,431 bytes, so the bytes past the 4,096 that are kept
-// change nothing (the law cut-text of the printout). The buffer for the text has 65,536 bytes, which is room enough; of a refused call the length
-// is 0, and nothing is written.
+// edigits: reads one frame from standard input and writes its text to standard output, also that of a refused
+// frame. Where the input cannot be read or the text cannot be written, a line on standard error says so: a
+// program of this language cannot set its exit status.
+//
+// The longest frame has 1,431 bytes and the longest text fewer than 32,768, so the two buffers of the library
+// for input and output are large enough: 4,096 bytes for the frame, of which any bytes more change nothing
+// (the law cut-text of the printout), and 65,536 for the text.
 fn main() {
     let mut input = io::buffer();
     let n = io::read_full(0, &mut input);
+    if os::errno() != 0 {
+        os::fail(b"edigits: standard input");
+        return;
+    }
     let mut out = io::large_buffer();
     let r = emethod::print_frame(&input[..n], &mut out);
     let end = r.length;
-    io::write_all(1, &out[..end]);
+    if out.len() < end || !io::write_all(1, &out[0..end]) {
+        os::fail(b"edigits: standard output");
+    }
 }

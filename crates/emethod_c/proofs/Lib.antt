@@ -1,2 +1,2 @@
-pub mod Loads
-pub mod Traces
+pub mod Jobs
+pub mod Words

@@ -1,120 +1,116 @@
--- What the foreign interface answers: one number that carries the refusal, the row and a count, and what each call leaves in lent memory. Cited by the
--- contracts of src/lib.rt; emethod.h says the same to a caller in C.
+-- What each call of the C interface answers, and what it leaves in lent memory: the contracts of src/lib.rt
+-- are equalities with these. emethod.h says the same to a caller in C.
 use mathlib.Core.Path.{_≡_}
 use mathlib.Core.Bool.{cond}
 use mathlib.Core.List.{List, [], _∷_, _++_, map}
-use Prim.Native.Nat.{ℕ, zero, suc, _+_, _*_, _%_, _^_}
+use Prim.Native.Nat.{ℕ, _+_, _*_, _%_, _^_, _≤_}
 use lib.Dec.{ltb, eqb}
 use lib.IntN.{ℤ, pos}
 use lib.ListN.{length, drop}
-use Rattle.integers.specs.Flat.{at, entry}
 use Rattle.job.specs.Header.{count}
+use Rattle.job.specs.Refusal.{Check, first-refusal, Decides}
 use Rattle.job.specs.declared.Header.{Header}
-use Rattle.frame.specs.Frame.{header-of, write-answer}
+use Rattle.header.specs.Header.{header-of}
+use Rattle.frame.specs.declared.FrameWritten.{FrameWritten}
 use Rattle.evaluator.specs.Evaluator.{loaded, advanced}
-use Rattle.trace.specs.Trace as trace
+use Rattle.trace.specs.Trace.{digit-list, trace-checks, trace-refusal, trace-record, record-answer, trace-writer-answer, trace-writer-buffer}
 use Rattle.trace.specs.declared.Record.{Record}
+use Rattle.trace.specs.declared.TraceWritten.{TraceWritten}
 use Rattle.accuracy.specs.Promise.{Promise}
 use Rattle.accuracy.specs.declared.Evaluated.{Evaluated}
 
--- three numbers in one
-abbrev pub answer-of : ℕ → ℕ → ℕ → ℕ
-answer-of refusal row count = refusal % 256 + 256 * (row % 256) + 65536 * (count % 2 ^ 40)
+-- ---- answers: a refusal, a row and a count in one number
 
--- a count that goes with no refusal only
-abbrev pub counted : ℕ → ℕ → ℕ
-counted refusal count = cond (eqb refusal 0) count 0
+-- a count goes with no refusal only
+abbrev pub accepted-count : (refusal count : ℕ) → ℕ
+accepted-count refusal count = cond (eqb refusal 0) count 0
+
+-- 8 bits for the refusal, 8 for the row, 40 for the count
+abbrev pub answer-of : (refusal row count : ℕ) → ℕ
+answer-of refusal row count = refusal % 256 + 256 * (row % 256) + 65536 * (accepted-count refusal count % 2 ^ 40)
 
 -- ---- em_check_frame: how many numbers a frame that loads has
 
-unfoldable pub check-answer : List ℕ → ℕ
-check-answer s = answer-of (loaded s .refusal) (loaded s .row) (counted (loaded s .refusal) (count (header-of s)))
+unfoldable pub check-answer : (frame : List ℕ) → ℕ
+check-answer frame = answer-of (loaded frame .refusal) (loaded frame .row) (count (header-of frame))
 
--- ---- em_evaluate: the promise of `evaluate` for one advance, and its answer in one number
+-- ---- em_evaluate: the promise of `evaluate` for one advance. The count is the steps made
 
 pub record Evaluates (frame : List ℕ) (budget : ℕ) (given : List ℤ) (r : ℕ) (left : List ℤ) : Type 0 where
   pub evaluated : Evaluated
   pub promise : Promise frame (budget ∷ []) given evaluated left
-  pub answer : r ≡ answer-of (evaluated .refusal) (evaluated .row) (counted (evaluated .refusal) (evaluated .made))
+  pub answer : r ≡ answer-of (evaluated .refusal) (evaluated .row) (evaluated .made)
 
--- ---- em_probe_load: an entry of G, or past the columns the residual of the row; 0 for a row past the matrix, and for a frame that is refused
+-- ---- em_write_frame: what the frame writer answers and leaves. The count is the frame's bytes
 
-unfoldable pub probed : List ℤ → List ℤ → ℕ → ℕ → ℤ
-probed g z row column = cond (ltb row 16) (cond (ltb column 16) (entry g row column) (at z row)) (pos 0)
-
-unfoldable pub load-probed : List ℕ → ℕ → ℕ → ℤ
-load-probed frame row column = cond (eqb (loaded frame .refusal) 0) (probed (loaded frame .state .g) (loaded frame .state .z) row column) (pos 0)
-
--- ---- em_write_frame
-
-abbrev pub header : ℕ → ℕ → ℕ → ℕ → ℕ → ℕ → Header
+abbrev pub header : (kind code p f n m : ℕ) → Header
 header kind code p f n m = record { kind = kind; code = code; p = p; f = f; n = n; m = m }
 
-unfoldable pub frame-written : Header → List ℤ → ℕ → ℕ
-frame-written h v room = answer-of (write-answer h v room .refusal) (write-answer h v room .row) (write-answer h v room .length)
+abbrev pub frame-answer : FrameWritten → ℕ
+frame-answer w = answer-of (w .refusal) (w .row) (w .length)
 
--- ---- em_write_trace: the record of the job after an advance, written
+-- ---- em_write_trace: refused as load is; else the record of the job after an advance is written. The count
+-- is the trace's bytes
 
--- the answer of the trace writer in one number
-abbrev pub record-written : Record → ℕ → ℕ
-record-written t room = answer-of (trace.write-answer t room .refusal) 0 (trace.write-answer t room .length)
+abbrev pub trace-answer : TraceWritten → ℕ
+trace-answer w = answer-of (w .refusal) 0 (w .length)
 
--- an advance that is refused leaves the state as it is
-unfoldable pub job-record : List ℕ → ℕ → Record
-job-record frame budget = trace.record-answer (advanced (loaded frame .state) budget .state) .trace
+-- a refused advance leaves the state as it is
+unfoldable pub job-record : (frame : List ℕ) (budget : ℕ) → Record
+job-record frame budget = record-answer (advanced (loaded frame .state) budget .state) .trace
 
-unfoldable pub trace-written : List ℕ → ℕ → ℕ → ℕ
-trace-written frame budget room =
-    cond (eqb (loaded frame .refusal) 0) (record-written (job-record frame budget) room) (answer-of (loaded frame .refusal) (loaded frame .row) 0)
+unfoldable pub job-trace-answer : (frame : List ℕ) (budget room : ℕ) → ℕ
+job-trace-answer frame budget room =
+    cond (eqb (loaded frame .refusal) 0) (trace-answer (trace-writer-answer (job-record frame budget) room))
+    (answer-of (loaded frame .refusal) (loaded frame .row) 0)
 
-unfoldable pub trace-buffer : List ℕ → ℕ → List ℕ → List ℕ
-trace-buffer frame budget out = cond (eqb (loaded frame .refusal) 0) (trace.write-buffer (job-record frame budget) out) out
+unfoldable pub job-trace-buffer : (frame : List ℕ) (budget : ℕ) (out : List ℕ) → List ℕ
+job-trace-buffer frame budget out = cond (eqb (loaded frame .refusal) 0) (trace-writer-buffer (job-record frame budget) out) out
 
--- ---- em_rewrite_trace: the record of a trace, written so many times
+-- ---- em_read_trace: the words of a trace are its header's fields, the steps made, and the digits step by
+-- step and in a step row by row. The count is the words
 
-unfoldable pub rewritten : Record → ℕ → List ℕ → List ℕ
-rewritten t zero out = out
-rewritten t (suc j) out = trace.write-buffer t (rewritten t j out)
-
--- every write answers the same; 0 where there is none
-unfoldable pub rewrites : Record → ℕ → ℕ → ℕ
-rewrites t times room = cond (eqb times 0) 0 (record-written t room)
-
-unfoldable pub rewrite-answer : List ℕ → ℕ → ℕ → ℕ
-rewrite-answer s times room =
-    cond (eqb (trace.read-answer s .refusal) 0) (rewrites (trace.read-answer s .trace) times room) (answer-of (trace.read-answer s .refusal) 0 0)
-
-unfoldable pub rewrite-buffer : List ℕ → ℕ → List ℕ → List ℕ
-rewrite-buffer s times out = cond (eqb (trace.read-answer s .refusal) 0) (rewritten (trace.read-answer s .trace) times out) out
-
--- ---- em_read_trace: the header's fields, the steps made, and the digits step by step and in a step row by row
-
-abbrev pub header-words : Header → ℕ → List ℕ
+abbrev pub header-words : (h : Header) (k : ℕ) → List ℕ
 header-words h k = h .kind ∷ h .code ∷ h .p ∷ h .f ∷ h .n ∷ h .m ∷ k ∷ []
 
-abbrev pub header-numbers : Header → ℕ → List ℤ
-header-numbers h k = map pos (header-words h k)
+abbrev pub words-of : (h : Header) (k : ℕ) (digits : List ℤ) → List ℤ
+words-of h k digits = map pos (header-words h k) ++ digit-list (h .n) k digits
 
-unfoldable pub words-of : Header → ℕ → List ℤ → List ℤ
-words-of h k ds = header-numbers h k ++ trace.digit-list (h .n) k ds
-
-abbrev pub word-count : Header → ℕ → ℕ
+abbrev pub word-count : (h : Header) (k : ℕ) → ℕ
 word-count h k = 7 + h .n * k
 
-abbrev pub trace-words : Record → List ℤ
-trace-words t = words-of (t .header) (t .k) (t .digits)
+-- those of the record that a trace holds
+abbrev pub trace-words : (trace : List ℕ) → List ℤ
+trace-words s = words-of (trace-record s .header) (trace-record s .k) (trace-record s .digits)
 
-abbrev pub words-in : Record → ℕ
-words-in t = word-count (t .header) (t .k)
+abbrev pub trace-word-count : (trace : List ℕ) → ℕ
+trace-word-count s = word-count (trace-record s .header) (trace-record s .k)
 
 -- refused as the trace is, then by 23
-unfoldable pub read-words : List ℕ → ℕ → ℕ
-read-words s room =
-    cond (eqb (trace.trace-refusal s) 0) (cond (ltb room (words-in (trace.trace-record s))) (answer-of 23 0 0) (answer-of 0 0 (words-in (trace.trace-record s))))
-    (answer-of (trace.trace-refusal s) 0 0)
+unfoldable pub words-checks : (trace : List ℕ) (room : ℕ) → List Check
+words-checks s room = trace-checks s ++ ((23, ltb room (trace-word-count s)) ∷ [])
+
+abbrev pub words-refusal : (trace : List ℕ) (room : ℕ) → ℕ
+words-refusal s room = first-refusal (words-checks s room)
+
+unfoldable pub words-answer : (trace : List ℕ) (room : ℕ) → ℕ
+words-answer s room = answer-of (words-refusal s room) 0 (trace-word-count s)
 
 -- the words, and those past them as they were; with a refusal all words as they were
-unfoldable pub words-left : List ℕ → List ℤ → List ℤ
+unfoldable pub words-left : (trace : List ℕ) (given : List ℤ) → List ℤ
 words-left s given =
-    cond (eqb (trace.trace-refusal s) 0)
-    (cond (ltb (length given) (words-in (trace.trace-record s))) given (trace-words (trace.trace-record s) ++ drop (words-in (trace.trace-record s)) given)) given
+    cond (eqb (words-refusal s (length given)) 0) (trace-words s ++ drop (trace-word-count s) given) given
+
+-- Demand 1, of em_read_trace. The other calls refuse as the calls do that they are made of.
+abbrev pub WordsDecided : Type 0
+WordsDecided = (s : List ℕ) (room : ℕ) → Decides (words-checks s room) (words-refusal s room)
+
+-- room for every trace: seven words, and a digit in each of 60 steps for each of 16 rows
+abbrev pub most-digits : ℕ
+most-digits = 960
+
+abbrev pub most-words : ℕ
+most-words = 967
+
+abbrev pub WordsEnough : Type 0
+WordsEnough = (s : List ℕ) → trace-refusal s ≡ 0 → trace-word-count s ≤ most-words

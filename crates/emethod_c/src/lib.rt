@@ -1,51 +1,40 @@
-// The library for host tools in other languages: functions over numbers and lent memory, built by `rt staticlib emethod_c`. emethod.h beside this crate's
-// src/ declares them for C. Each answers one number that carries the refusal, the row and a count, and asks nothing of its caller.
+// The library for host tools in other languages: functions over numbers and lent memory, built by
+// `rt staticlib emethod_c`. emethod.h beside this crate's src/ declares them for C. Each answers one number
+// that carries the refusal, the row and a count, and asks nothing of its caller.
 ghost use mathlib.Core.Path.{_≡_};
-ghost use mathlib.Core.List.{_++_};
-ghost use Prim.Native.Nat.{_+_, _*_, _<_, _≤_};
+ghost use mathlib.Core.List.{_++_, map};
+ghost use Prim.Native.Nat.{_+_, _<_, _≤_};
+ghost use lib.IntN.{pos};
 ghost use lib.ListN.{length, getD, drop};
 ghost use lib.Seq.{sets};
 ghost use Rattle.job.specs.Limits.{Limits};
 ghost use Rattle.job.specs.Rules.{trace-steps};
-ghost use Rattle.frame.specs.Frame.{write-buffer};
-ghost use Rattle.trace.specs.Groups.{digits-from};
-ghost use Rattle.emethod_c.specs.Foreign.{
-  answer-of,
-  counted,
-  check-answer,
-  Evaluates,
-  header,
-  frame-written,
-  probed,
-  load-probed,
-  trace-written,
-  trace-buffer,
-  rewrites,
-  rewritten,
-  rewrite-answer,
-  rewrite-buffer,
-  header-words,
-  header-numbers,
-  words-of,
-  word-count,
-  read-words,
-  words-left,
-};
+ghost use Rattle.frame.specs.Frame.{frame-writer-answer, frame-writer-buffer};
+ghost use Rattle.trace.specs.Inner.{digits-from};
+ghost use Rattle.emethod_c.specs.Foreign.{accepted-count, answer-of, check-answer, Evaluates, header, frame-answer, job-trace-answer, job-trace-buffer, header-words, words-of, word-count, words-answer, words-left, most-digits, most-words};
 use job::Header;
-use trace::Record;
+
+const FIELD: usize = 256; // the refusal and the row have 8 bits each in an answer
+
+const COUNTS: usize = 1099511627776; // 2^40: the count has the 40 bits above them
+
+const ROWS: usize = 16; // the most rows of a job
+
+const DIGITS: usize = 960; // the most digits of a trace: 60 steps of 16 rows
+
+// The count where there is no refusal, else 0.
+fn accepted_count(refusal: usize, count: usize) -> usize
+    ensures { λ r. ⌜ r ≡ accepted-count refusal count ⌝ }
+{
+    if refusal == 0 { count } else { 0 }
+}
 
 // The three numbers in one.
 fn answer(refusal: usize, row: usize, count: usize) -> u64
     ensures { λ r. ⌜ r ≡ answer-of refusal row count ⌝ }
 {
-    (refusal % 256 + 256 * (row % 256) + 65536 * (count % 1099511627776)) as u64
-}
-
-// The count where there is no refusal, else 0.
-fn counted(refusal: usize, count: usize) -> usize
-    ensures { λ r. ⌜ r ≡ counted refusal count ⌝ }
-{
-    if refusal == 0 { count } else { 0 }
+    let accepted = accepted_count(refusal, count);
+    (refusal % FIELD + FIELD * (row % FIELD) + FIELD * FIELD * (accepted % COUNTS)) as u64
 }
 
 // Loads a frame and lets it go.
@@ -67,7 +56,7 @@ pub extern "C" fn em_evaluate(frame: &[u8], budget: u64, readings: &mut [i64]) -
 {
     let budgets = [budget; 1];
     let e = accuracy::evaluate(frame, &budgets, readings);
-    answer(e.refusal, e.row, counted(e.refusal, e.made))
+    answer(e.refusal, e.row, e.made)
 }
 
 // Writes a frame of the fields and the numbers.
@@ -82,8 +71,8 @@ pub extern "C" fn em_write_frame(
     numbers: &[i64],
     out: &mut [u8],
 ) -> u64
-    ensures { λ r. ⌜ r ≡ frame-written (header kind code p f n m) (now (numbers .entry)) (length (now (out .entry))) ⌝ }
-    ensures { λ r. ⌜ now (out .exit) ≡ write-buffer (header kind code p f n m) (now (numbers .entry)) (now (out .entry)) ⌝ }
+    ensures { λ r. ⌜ r ≡ frame-answer (frame-writer-answer (header kind code p f n m) (now (numbers .entry)) (length (now (out .entry)))) ⌝ }
+    ensures { λ r. ⌜ now (out .exit) ≡ frame-writer-buffer (header kind code p f n m) (now (numbers .entry)) (now (out .entry)) ⌝ }
 {
     let h = Header {
         kind,
@@ -97,36 +86,12 @@ pub extern "C" fn em_write_frame(
     answer(w.refusal, w.row, w.length)
 }
 
-// An entry of the matrix, or past its columns the residual of the row.
-fn probe<'a>(g: &'a [i64; 256], z: &'a [i64; 16], row: usize, column: usize) -> i64
-    ensures { λ r. ⌜ r ≡ probed (now (g .entry)) (now (z .entry)) row column ⌝ }
-{
-    if 16 <= row {
-        return 0;
-    }
-    if column < 16 {
-        return g[16 * row + column];
-    }
-    z[row]
-}
-
-// For measurements: a load that cannot be left out.
-#[no_mangle]
-pub extern "C" fn em_probe_load(frame: &[u8], row: usize, column: usize) -> i64
-    ensures { λ r. ⌜ r ≡ load-probed (now (frame .entry)) row column ⌝ }
-{
-    let l = evaluator::load(frame);
-    if 0 < l.refusal {
-        return 0;
-    }
-    probe(&l.state.g, &l.state.z, row, column)
-}
-
-// Loads a frame, advances it by the budget, and writes its trace. A budget that no step is made with leaves the state as it is, and its trace is written.
+// Loads a frame, advances it by the budget, and writes its trace. An advance that is refused, as with
+// budget 0, leaves the state as it is, and that state's trace is written.
 #[no_mangle]
 pub extern "C" fn em_write_trace(frame: &[u8], budget: u64, out: &mut [u8]) -> u64
-    ensures { λ r. ⌜ r ≡ trace-written (now (frame .entry)) budget (length (now (out .entry))) ⌝ }
-    ensures { λ r. ⌜ now (out .exit) ≡ trace-buffer (now (frame .entry)) budget (now (out .entry)) ⌝ }
+    ensures { λ r. ⌜ r ≡ job-trace-answer (now (frame .entry)) budget (length (now (out .entry))) ⌝ }
+    ensures { λ r. ⌜ now (out .exit) ≡ job-trace-buffer (now (frame .entry)) budget (now (out .entry)) ⌝ }
 {
     let l = evaluator::load(frame);
     if 0 < l.refusal {
@@ -141,38 +106,6 @@ pub extern "C" fn em_write_trace(frame: &[u8], budget: u64, out: &mut [u8]) -> u
     answer(w.refusal, 0, w.length)
 }
 
-// Writes a record `times` times, and stops where that is refused.
-fn rewrite(t: Record, times: u64, out: &mut [u8]) -> u64
-    ensures { λ r. ⌜ r ≡ rewrites t times (length (now (out .entry))) ⌝ }
-    ensures { λ r. ⌜ now (out .exit) ≡ rewritten t times (now (out .entry)) ⌝ }
-{
-    let mut a: u64 = 0;
-    let mut i: u64 = 0;
-    while i < times {
-        let w = trace::write_trace(t, out);
-        a = answer(w.refusal, 0, w.length);
-        if 0 < w.refusal {
-            return a;
-        }
-        i += 1;
-    }
-    a
-}
-
-// For measurements: reads a trace once, and writes it back `times` times.
-#[no_mangle]
-pub extern "C" fn em_rewrite_trace(trace: &[u8], times: u64, out: &mut [u8]) -> u64
-    ensures { λ r. ⌜ r ≡ rewrite-answer (now (trace .entry)) times (length (now (out .entry))) ⌝ }
-    ensures { λ r. ⌜ now (out .exit) ≡ rewrite-buffer (now (trace .entry)) times (now (out .entry)) ⌝ }
-{
-    let c = trace::read_trace(trace);
-    if 0 < c.refusal {
-        return answer(c.refusal, 0, 0);
-    }
-    let t = c.trace;
-    rewrite(t, times, out)
-}
-
 // One of the first seven words of a trace: the header's fields and the steps made.
 fn header_word(h: Header, k: usize, i: usize) -> usize
     requires { ⌜ i < 7 ⌝ }
@@ -183,9 +116,9 @@ fn header_word(h: Header, k: usize, i: usize) -> usize
 }
 
 // Puts the first seven words of a trace into the list; the words past them stay.
-fn put_header(h: Header, k: usize, words: &mut [i64])
+fn put_header_words(h: Header, k: usize, words: &mut [i64])
     requires { ⌜ Limits h × (k ≤ trace-steps h) × (7 ≤ length (now words)) ⌝ }
-    ensures { λ _. ⌜ now (words .exit) ≡ sets (now (words .entry)) 0 (header-numbers h k) ⌝ }
+    ensures { λ _. ⌜ now (words .exit) ≡ sets (now (words .entry)) 0 (map pos (header-words h k)) ⌝ }
 {
     let mut i: usize = 0;
     while i < 7 {
@@ -194,14 +127,15 @@ fn put_header(h: Header, k: usize, words: &mut [i64])
     }
 }
 
-// Puts n digits, from the place `from` on, into the list from the word `to` on; the other words stay. The loop has a fixed end and asks
-// for its row in each turn, so that words are put one by one: several at once take longer here.
-fn put_step(d: &[i8; 960], from: usize, n: usize, words: &mut [i64], to: usize)
-    requires { ⌜ (n ≤ 16) × (from + n ≤ 960) × (to + n ≤ length (now words)) × (to ≤ 967) ⌝ }
+// Puts n digits, from the place `from` on, into the list from the word `to` on; the other words stay. The
+// loop has a fixed end and asks for its row in each turn, so that words are put one by one: several at once
+// take longer here.
+fn put_step_words(d: &[i8; DIGITS], from: usize, n: usize, words: &mut [i64], to: usize)
+    requires { ⌜ (n ≤ 16) × (from + n ≤ most-digits) × (to + n ≤ length (now words)) × (to ≤ most-words) ⌝ }
     ensures { λ _. ⌜ now (words .exit) ≡ sets (now (words .entry)) to (digits-from (now (d .entry)) from n) ⌝ }
 {
     let mut x: usize = 0;
-    while x < 16 {
+    while x < ROWS {
         if x < n {
             words[to + x] = integers::widen(d[from + x]);
         }
@@ -209,17 +143,18 @@ fn put_step(d: &[i8; 960], from: usize, n: usize, words: &mut [i64], to: usize)
     }
 }
 
-// Puts the words of a record into the list, the digits step by step and in a step row by row; the words past them stay.
-fn put_words(h: Header, k: usize, d: &[i8; 960], words: &mut [i64])
+// Puts the words of a record into the list, the digits step by step and in a step row by row; the words
+// past them stay.
+fn put_words(h: Header, k: usize, d: &[i8; DIGITS], words: &mut [i64])
     requires { ⌜ Limits h × (k ≤ trace-steps h) × (word-count h k ≤ length (now words)) ⌝ }
     ensures { λ _. ⌜ now (words .exit) ≡ words-of h k (now (d .entry)) ++ drop (word-count h k) (now (words .entry)) ⌝ }
 {
-    put_header(h, k, words);
+    put_header_words(h, k, words);
     let n = h.n;
     let mut to: usize = 7;
     let mut j: usize = 0;
     while j < k {
-        put_step(d, 16 * j, n, words, to);
+        put_step_words(d, ROWS * j, n, words, to);
         to += n;
         j += 1;
     }
@@ -228,7 +163,7 @@ fn put_words(h: Header, k: usize, d: &[i8; 960], words: &mut [i64])
 // Reads a trace into words.
 #[no_mangle]
 pub extern "C" fn em_read_trace(trace: &[u8], words: &mut [i64]) -> u64
-    ensures { λ r. ⌜ r ≡ read-words (now (trace .entry)) (length (now (words .entry))) ⌝ }
+    ensures { λ r. ⌜ r ≡ words-answer (now (trace .entry)) (length (now (words .entry))) ⌝ }
     ensures { λ r. ⌜ now (words .exit) ≡ words-left (now (trace .entry)) (now (words .entry)) ⌝ }
 {
     let c = trace::read_trace(trace);

@@ -1,42 +1,14 @@
--- Arrays and lists that are written entry by entry: the digits of a step copied out and stored, and a list's
--- first words replaced. Cited by the proofs of `last_digits`, `store_digits` and `put_readings`.
+-- A list whose first words are replaced, one after the other. Cited by the proof of `put_readings`.
 use mathlib.Core.Path.{_≡_, refl, sym, ap, _∙_}
-use mathlib.Core.Bool.{Bool, true, false, cond}
 use mathlib.Core.List.{List, _++_}
-use Prim.Native.Nat.{ℕ, zero, suc, _+_, _*_, _-_, _^_, _<_, _≤_}
+use Prim.Native.Nat.{ℕ, _+_, _<_, _≤_}
 use native.Mathlib.Omega.{arith}
-use lib.IntN.{ℤ, pos}
-use lib.ListN.{length, set, take, drop, replicate}
+use lib.IntN.{ℤ}
+use lib.ListN.{length, set, take, drop}
 use lib.Seq.{take-all}
-use lib.Signed.{mag}
-use mir.Syntax.{w8, w64}
-use mir.Val.{toZ, ofZ}
-use mir.Facts.{toZ-ofZ}
-use Rattle.integers.specs.Flat.{at, list-from, flat-vector, length-list-from, getD-list-from}
+use Rattle.integers.specs.Flat.{list-from}
+use Rattle.integers.proofs.Flat.{length-list-from, getD-list-from}
 use Rattle.frame.proofs.Reader.{copy-turn}
-use Rattle.state.specs.Digits.{digits-of}
-
--- a digit that is read and stored as it is
-pub digit-kept : (x : ℤ) → mag x < 2 ^ 7 → toZ w8 (ofZ w8 x) ≡ x
-digit-kept x h = toZ-ofZ {w = w8} {z = x} (record { sfits = h })
-
--- a number too
-pub number-kept : (x : ℤ) → mag x < 2 ^ 63 → toZ w64 (ofZ w64 x) ≡ x
-number-kept x h = toZ-ofZ {w = w64} {z = x} (record { sfits = h })
-
--- before the first step
-either : (b : Bool) → cond b (pos 0) (pos 0) ≡ pos 0
-either true = refl
-either false = refl
-
-pub first-digits : (ds : List ℤ) (n k : ℕ) → k ≡ 0 → replicate 16 (pos 0) ≡ flat-vector n (digits-of ds k)
-unfolding list-from
-first-digits ds n k e = rw e (simp either)
-
--- after it
-pub step-digit : (ds : List ℤ) (k i : ℕ) → (k ≡ 0 → ⊥) → at ds (16 * (k - 1) + i) ≡ digits-of ds k i
-step-digit ds zero i h = absurd (h refl)
-step-digit ds (suc k) i h = let e : suc k - 1 ≡ k = omega arith in rw e
 
 -- ---- a list whose first words are replaced, one after the other
 

@@ -1,5 +1,5 @@
--- What advance and readings answer, over the locals of their code: by what they are refused, and what they give and leave. Cited by the proofs of
--- `advance` and `readings`.
+-- What advance and readings answer, over the locals of their code: by what they are refused, and what they
+-- give and leave. Cited by the proofs of `advance` and `readings`.
 use mathlib.Core.Path.{_≡_, sym, ap, _∙_}
 use mathlib.Core.Bool.{true, cond}
 use mathlib.Core.List.{List, [], _∷_, _++_}
@@ -11,13 +11,14 @@ use lib.Dec.{T, ltb, nleb→lt, nltb→le, leb}
 use lib.IntN.{ℤ}
 use lib.ListN.{length, drop}
 use Rattle.integers.specs.Flat.{list-from}
-use Rattle.integers.specs.Maximum.{le-or-lt}
+use Rattle.integers.proofs.Maximum.{le-or-lt}
 use Rattle.job.specs.Refusal.{Check, first-refusal, None, none, also}
 use Rattle.job.proofs.Refusal.{numbered, accepted-exactly, refused-before, accepted-before}
-use Rattle.state.specs.Sound.{Sound}
+use Rattle.state.specs.PassesLimits.{PassesLimits}
 use Rattle.state.specs.State.{state-checks, state-last}
 use Rattle.state.specs.declared.State.{State}
-use Rattle.evaluator.specs.Evaluator.{no-budget, all-made, least, steps, advance-checks, advance-refusal, steps-made, advanced, state-reading, list-too-short, readings-checks, readings-refusal, readings-list}
+use Rattle.evaluator.specs.Evaluator.{no-budget, all-made, smaller, advance-checks, advance-refusal, steps-made, advanced, state-reading, readings-list-too-short, readings-checks, readings-refusal, readings-list}
+use Rattle.stepping.specs.Steps.{steps}
 use Rattle.evaluator.proofs.Kept.{passes-exactly}
 
 -- ---- checks after the state's
@@ -31,10 +32,10 @@ refused-then xs ys bad t e = by-case (le-or-lt bad 0)
 
 -- ---- advance
 
-pub least-most : (a b : ℕ) → least a b ≤ b
-least-most a b = by-order (le-or-lt a b)
+pub smaller-most : (a b : ℕ) → smaller a b ≤ b
+smaller-most a b = by-order (le-or-lt a b)
   where
-    by-order : (a ≤ b) ⊎ (b < a) → least a b ≤ b
+    by-order : (a ≤ b) ⊎ (b < a) → smaller a b ≤ b
     by-order (inl l) = rw (le-leb a b l) l
     by-order (inr l) = rw (lt-leb a b l) (omega arith)
 
@@ -48,17 +49,17 @@ module _ (s : State) (budget bad last refusal : ℕ) (checked : bad ≡ first-re
   unfolding advanced steps-made steps
   advance-refuses h = rw (← refusal-is, ne-eqb refusal 0 h)
 
-  pub advance-makes : (made : ℕ) (t : State) → refusal ≡ 0 → made ≡ least budget (last - s .k) → t ≡ steps s made
+  pub advance-makes : (made : ℕ) (t : State) → refusal ≡ 0 → made ≡ smaller budget (last - s .k) → t ≡ steps s made
       → record { refusal = refusal; made = made; state = t } ≡ advanced s budget
   unfolding advanced steps-made
   advance-makes made t h em et = rw (← refusal-is, eq-eqb refusal 0 h, ← (rw end at em)) (ap (λ (t : State). record { refusal = refusal; made = made; state = t }) et)
 
-  -- where nothing is refused the state is busy and sound, and steps are left
-  pub advance-takes : refusal ≡ 0 → (s .busy ≡ true) × Sound s × (s .k < last)
+  -- where nothing is refused the state is busy and passes its limits, and steps are left
+  pub advance-takes : refusal ≡ 0 → (s .busy ≡ true) × PassesLimits s × (s .k < last)
   unfolding advance-checks
   advance-takes h = takes (accepted-exactly (advance-checks s budget) tt .0 (sym refusal-is ∙ h))
     where
-      takes : None (advance-checks s budget) → (s .busy ≡ true) × Sound s × (s .k < last)
+      takes : None (advance-checks s budget) → (s .busy ≡ true) × PassesLimits s × (s .k < last)
       takes (also idle (also broken (also none-left (also made none)))) =
           let p = passes-exactly s .0 (accepted-exactly (state-checks s) tt .1 (also idle (also broken none))) in
           (p .0, p .1, rw end (nleb→lt (state-last s) (s .k) made))
@@ -66,10 +67,10 @@ module _ (s : State) (budget bad last refusal : ℕ) (checked : bad ≡ first-re
 -- ---- readings
 
 module _ (s : State) (out : List ℤ) (bad refusal : ℕ) (checked : bad ≡ first-refusal (state-checks s))
-    (answer : refusal ≡ cond (ltb 0 bad) bad (first-refusal ((23, list-too-short s (length out)) ∷ []))) where
+    (answer : refusal ≡ cond (ltb 0 bad) bad (first-refusal ((23, readings-list-too-short s (length out)) ∷ []))) where
   reads-is : refusal ≡ readings-refusal s (length out)
   unfolding readings-checks
-  reads-is = answer ∙ refused-then (state-checks s) ((23, list-too-short s (length out)) ∷ []) bad tt checked
+  reads-is = answer ∙ refused-then (state-checks s) ((23, readings-list-too-short s (length out)) ∷ []) bad tt checked
 
   pub readings-refuses : (refusal ≡ 0 → ⊥) → (refusal ≡ readings-refusal s (length out)) × (out ≡ readings-list s out)
   unfolding readings-list
@@ -80,11 +81,11 @@ module _ (s : State) (out : List ℤ) (bad refusal : ℕ) (checked : bad ≡ fir
   unfolding readings-list
   readings-writes o h e = (reads-is, e ∙ rw (← reads-is, eq-eqb refusal 0 h))
 
-  -- where nothing is refused the state is sound, and the list has a word for every row
-  pub readings-takes : refusal ≡ 0 → Sound s × (s .header .n ≤ length out)
+  -- where nothing is refused the state passes its limits, and the list has a word for every row
+  pub readings-takes : refusal ≡ 0 → PassesLimits s × (s .header .n ≤ length out)
   unfolding readings-checks
   readings-takes h = takes (accepted-exactly (readings-checks s (length out)) tt .0 (sym reads-is ∙ h))
     where
-      takes : None (readings-checks s (length out)) → Sound s × (s .header .n ≤ length out)
+      takes : None (readings-checks s (length out)) → PassesLimits s × (s .header .n ≤ length out)
       takes (also idle (also broken (also short none))) =
           (passes-exactly s .0 (accepted-exactly (state-checks s) tt .1 (also idle (also broken none))) .1, nltb→le (length out) (s .header .n) short)

@@ -1,5 +1,5 @@
--- What is said of entries past the order, at work on document 01's case A: 7 is stored past the order in G, in z and in the
--- digits, and from the statements alone every call answers as before, and the 7 comes back.
+-- What is said of entries past the order, at work on document 01's case A: 7 is stored past the order in G,
+-- in z and in the digits, and from the statements alone every call answers as before, and the 7 comes back.
 use mathlib.Core.Path.{_≡_, refl, sym, _∙_}
 use mathlib.Core.List.{List, [], _∷_}
 use mathlib.Core.Logic.{inl}
@@ -7,22 +7,20 @@ use Prim.Native.Nat.{ℕ}
 use native.Mathlib.Omega.{arith}
 use lib.IntN.{pos, negsuc}
 use Rattle.integers.specs.Flat.{at, entry, list-from, stores}
-use Rattle.integers.specs.Product.{dot, weight}
-use Rattle.integers.specs.Sum.{sum, total}
-use Rattle.bitfields.specs.Layout.{field, number, bits, run}
+use Rattle.integers.specs.Sum.{dot, weight, sum, total}
+use Rattle.bitfields.specs.Layout.{field, number, bits, values-from}
 use Rattle.bitfields.specs.Twos.{decode}
-use Rattle.job.specs.Rows.{first-row-from}
-use Rattle.job.specs.System.{curve-entry, matrix, right-side}
+use Rattle.system.specs.Rows.{first-row-from}
+use Rattle.system.specs.System.{curve-entry, matrix, right-side}
 use Rattle.frame.specs.Frame.{frame-checks}
-use Rattle.recurrence.specs.Flat.{stepped-digits, stepped-residuals}
+use Rattle.stepping.specs.Steps.{stepped-digits, stepped-residuals, steps, one-step}
 use Rattle.recurrence.specs.Recurrence.{shifted, next-digit, next-residual, reading}
 use Rattle.recurrence.specs.Selection.{select, digit-size}
-use Rattle.state.specs.Digits.{beyond}
+use Rattle.state.specs.State.{beyond, fresh, breaks-limit}
 use Rattle.state.specs.PastOrder.{SameBelow}
-use Rattle.state.specs.State.{fresh, breaks-limit}
 use Rattle.state.specs.declared.State.{State}
-use Rattle.state.proofs.Below.{overwritten, overwritten-below}
-use Rattle.evaluator.specs.Evaluator.{loaded, advanced, advance-checks, steps-made, steps, one-step, readings-checks, readings-list, readings-refusal}
+use Rattle.state.proofs.PastOrder.{overwritten, overwritten-below}
+use Rattle.evaluator.specs.Evaluator.{loaded, advanced, advance-checks, steps-made, readings-checks, readings-list, readings-refusal}
 use Rattle.evaluator.specs.PastOrder.{SameLengths, LoadZeros, AdvanceBelow, AdvanceKeeps, ReadingsBelow}
 use Rattle.evaluator.proofs.PastOrder.{load-zeros, advance-below, advance-keeps, readings-below}
 
@@ -91,7 +89,7 @@ module _ (keeps : AdvanceKeeps) where
 module _ (zeros : LoadZeros) where
   -- load leaves 0 there
   zero-A : (entry (loaded frame-A .state .g) 2 0 ≡ pos 0) × (at (loaded frame-A .state .z) 2 ≡ pos 0) × (entry (loaded frame-A .state .digits) 0 2 ≡ pos 0)
-  unfolding frame-A loaded fresh frame-checks field number bits run decode curve-entry matrix right-side first-row-from weight total
+  unfolding frame-A loaded fresh frame-checks field number bits values-from decode curve-entry matrix right-side first-row-from weight total
   zero-A =
       let x = zeros frame-A in
       (x .matrix 2 0 (omega arith) (omega arith) (inl (omega arith)), x .residuals 2 (omega arith) (omega arith), x .digits 0 2 (omega arith) (omega arith) (omega arith))

@@ -1,4 +1,5 @@
--- Readings by Horner's rule: a reading of j steps is below r^j, so nothing leaves 64 bits. Cited by the proofs of `reading`, `put_readings` and `readings`.
+-- Readings by Horner's rule: a reading of j steps is below r^j, so nothing leaves 64 bits. Cited by the
+-- proofs of `reading`, `put_readings` and `readings`.
 use mathlib.Core.Path.{_≡_, refl, ap₂, _∙_}
 use mathlib.Core.List.{List}
 use Prim.Native.Nat.{ℕ, zero, suc, _+_, _*_, _-_, _^_, _<_, _≤_}
@@ -9,24 +10,24 @@ use lib.IntN.{ℤ, pos, natAbs, _+ℤ_, _*ℤ_}
 use lib.Pow.{pow-add, pow-mono}
 use mir.Syntax.{w8, w64}
 use mir.Val.{SFits, toZ, ofZ}
-use Rattle.integers.specs.Absolute.{abs-add, abs-mul}
+use Rattle.integers.proofs.Absolute.{abs-add, abs-mul}
 use Rattle.integers.specs.Flat.{entry}
-use Rattle.integers.specs.Machine.{Machine, known, bounded, cast-is, read-i8, read-i64, machine-add, machine-fits, machine-eq}
+use Rattle.integers.proofs.Machine.{Machine, known, bounded, cast-is, read-i8, read-i64, machine-add, machine-fits, machine-eq}
 use Rattle.job.specs.Header.{digit-bits, radix}
 use Rattle.job.specs.Rules.{last-step}
 use Rattle.job.proofs.Limits.{radix-least, radix-most, last-bits, last-small}
 use Rattle.job.specs.declared.Header.{Header}
 use Rattle.recurrence.specs.Recurrence.{reading}
-use Rattle.state.specs.Digits.{digits-of}
-use Rattle.state.specs.Sound.{Sound}
+use Rattle.state.specs.State.{digits-of}
+use Rattle.state.specs.PassesLimits.{PassesLimits}
 use Rattle.state.specs.declared.State.{State}
-use Rattle.evaluator.specs.Readable.{Readable, RowsReadable}
+use Rattle.evaluator.specs.Inner.{MayRead, MayReadRows}
 
 pub reading-zero : (r : ℕ) (d : ℕ → ℕ → ℤ) (i : ℕ) → reading r d 0 i ≡ pos 0
 unfolding reading
 reading-zero r d i = refl
 
--- ---- the rows of a sound state can be read
+-- ---- the rows of a state that passes its limits may be read
 
 power : (a k : ℕ) → (2 ^ a) ^ k ≡ 2 ^ (a * k)
 power a zero = let e : a * 0 ≡ 0 = omega arith in rw (pow-zero (2 ^ a), e)
@@ -35,11 +36,11 @@ power a (suc k) = let e : a * suc k ≡ a + a * k = omega arith in rw (pow-succ'
 fewer : (m k w : ℕ) → m * w ≤ 60 → k ≤ m → w * k ≤ 60
 fewer m k w h l = omega (arith, mul-le-mul-left w l)
 
-pub sound-readable : {s : State} → Sound s → RowsReadable (s .header) (s .k) (s .digits)
-sound-readable p = record { limits = p .limits; steps = p .steps; made = p .made }
+pub may-read-rows : {s : State} → PassesLimits s → MayReadRows (s .header) (s .k) (s .digits)
+may-read-rows p = record { limits = p .limits; steps = p .steps; made = p .made }
 
-pub readable : {h : Header} {k : ℕ} {ds : List ℤ} → RowsReadable h k ds → (i r : ℕ) → i < h .n → r ≡ radix (h .code) → Readable ds i k r
-readable {h} {k} p i r l e =
+pub may-read : {h : Header} {k : ℕ} {ds : List ℤ} → MayReadRows h k ds → (i r : ℕ) → i < h .n → r ≡ radix (h .code) → MayRead ds i k r
+may-read {h} {k} p i r l e =
     rw e
     (record {
       row = omega (arith, p .limits .order-most);
@@ -56,7 +57,7 @@ readable {h} {k} p i r l e =
 below-next : (r R a b y : ℕ) → a < R → b ≤ r - 1 → 1 ≤ r → y ≤ r * a + b → y < r * R
 below-next r R a b y h k l m = omega (arith, mul-le-mul-left r h)
 
-module _ {ds : List ℤ} {i k r : ℕ} (h : Readable ds i k r) where
+module _ {ds : List ℤ} {i k r : ℕ} (h : MayRead ds i k r) where
   abbrev Y : ℕ → ℤ
   Y j = reading r (digits-of ds) j i
 
@@ -79,8 +80,8 @@ module _ {ds : List ℤ} {i k r : ℕ} (h : Readable ds i k r) where
     the-product =
         known (toZ w64 r *ℤ toZ w64 y) (pos r *ℤ Y j) (2 ^ 60) (ap₂ (λ a b. a *ℤ b) (cast-is w64 r 16 (h .radix-most) tt) ey) (product-small j l)
 
-    pub product-fits : SFits w64 (toZ w64 r *ℤ toZ w64 y)
-    product-fits = machine-fits the-product tt
+    pub reading-product-fits : SFits w64 (toZ w64 r *ℤ toZ w64 y)
+    reading-product-fits = machine-fits the-product tt
 
     -- `x` is what `widen` gave of the next digit
     module _ (x : ℤ) (ex : x ≡ toZ w8 (ofZ w8 (entry ds j i))) where
@@ -93,8 +94,8 @@ module _ {ds : List ℤ} {i k r : ℕ} (h : Readable ds i k r) where
       abbrev the-sum : Machine (toZ w64 (ofZ w64 (toZ w64 r *ℤ toZ w64 y)) +ℤ toZ w64 (ofZ w64 x))
       the-sum = machine-add (read-i64 the-product) (read-i64 (known x (entry ds j i) 15 digit-is digit-small))
 
-      pub sum-fits : SFits w64 (toZ w64 (ofZ w64 (toZ w64 r *ℤ toZ w64 y)) +ℤ toZ w64 (ofZ w64 x))
-      sum-fits = machine-fits the-sum tt
+      pub reading-sum-fits : SFits w64 (toZ w64 (ofZ w64 (toZ w64 r *ℤ toZ w64 y)) +ℤ toZ w64 (ofZ w64 x))
+      reading-sum-fits = machine-fits the-sum tt
 
       pub reading-next : toZ w64 (ofZ w64 (toZ w64 (ofZ w64 (toZ w64 r *ℤ toZ w64 y)) +ℤ toZ w64 (ofZ w64 x))) ≡ reading r (digits-of ds) (j + 1) i
       unfolding reading

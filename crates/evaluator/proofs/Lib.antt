@@ -1,10 +1,8 @@
 pub mod Arrays
 pub mod Calls
-pub mod Follow
 pub mod Horner
 pub mod Kept
 pub mod Loading
 pub mod PastOrder
 pub mod ExamplePastOrder
-pub mod Stepping
 pub mod Theorems

@@ -10,33 +10,36 @@ use borrow.Author.Tests.{le-ltb}
 use lib.Dec.{ltb}
 use lib.IntN.{ℤ, pos, _-ℤ_, _*ℤ_}
 use lib.ListN.{length, drop, getD-replicate}
-use Rattle.integers.specs.Flat.{at, entry, flat-vector, getD-list-from, length-stores, stores-other}
-use Rattle.integers.specs.Maximum.{le-or-lt}
-use Rattle.integers.specs.Product.{dot-ext}
+use Rattle.integers.specs.Flat.{at, entry, flat-vector}
+use Rattle.integers.proofs.Flat.{getD-list-from}
+use Rattle.integers.proofs.Stores.{length-stores, stores-other}
+use Rattle.integers.proofs.Maximum.{le-or-lt}
+use Rattle.integers.proofs.Product.{dot-ext}
 use Rattle.job.specs.Header.{radix}
 use Rattle.job.proofs.Limits.{last-small}
-use Rattle.system.specs.Setup.{past-order}
+use Rattle.system.proofs.Arrays.{past-order}
 use Rattle.job.specs.Refusal.{Check, first-refusal}
 use Rattle.job.proofs.Refusal.{refused-before}
-use Rattle.job.specs.System.{matrix-of, right-side-of}
+use Rattle.system.specs.System.{matrix-of, right-side-of}
 use Rattle.job.specs.declared.Header.{Header}
-use Rattle.recurrence.specs.Flat.{stepped-digits, stepped-residuals}
+use Rattle.stepping.specs.Steps.{stepped-digits, stepped-residuals, last-digits, chosen-digits, residuals-left, one-step, steps}
 use Rattle.recurrence.specs.Recurrence.{shifted, next-digit, next-residual, reading}
 use Rattle.recurrence.specs.Selection.{select}
-use Rattle.recurrence.proofs.Stepped.{filled-ext, length-stepped-residuals, stepped-residual-past}
-use Rattle.frame.specs.Frame.{header-of, frame-numbers}
-use Rattle.state.specs.Digits.{all-steps, digits-of}
-use Rattle.state.specs.Sound.{Sound}
-use Rattle.state.specs.State.{state-last, idle-state, fresh, state-checks}
+use Rattle.stepping.proofs.Stepped.{filled-ext, length-stepped-residuals, stepped-residual-past}
+use Rattle.header.specs.Header.{header-of}
+use Rattle.frame.specs.Frame.{frame-numbers}
+use Rattle.state.specs.State.{all-steps, digits-of, state-last, idle-state, fresh, state-checks}
+use Rattle.state.specs.PassesLimits.{PassesLimits}
 use Rattle.state.specs.declared.State.{State}
 use Rattle.state.specs.PastOrder.{SameBelow}
-use Rattle.state.proofs.Below.{checked-alike, list-from-alike, flat-vector-alike, stores-alike}
-use Rattle.evaluator.specs.Evaluator.{loaded, last-digits, chosen-digits, left-residuals, one-step, steps, no-budget, all-made, advance-checks, advance-refusal, steps-made, advanced, list-too-short, readings-checks, readings-refusal, readings-list}
+use Rattle.state.proofs.PastOrder.{checked-alike}
+use Rattle.state.proofs.Lists.{list-from-alike, flat-vector-alike, stores-alike}
+use Rattle.evaluator.specs.Evaluator.{loaded, no-budget, all-made, advance-checks, advance-refusal, steps-made, advanced, readings-list-too-short, readings-checks, readings-refusal, readings-list}
 use Rattle.evaluator.specs.PastOrder.{SamePast, ZeroPast, SameLengths, LoadZeros, AdvanceBelow, AdvanceKeeps, ReadingsBelow}
-use Rattle.evaluator.proofs.Calls.{least-most}
-use Rattle.evaluator.proofs.Follow.{steps-k}
+use Rattle.evaluator.proofs.Calls.{smaller-most}
+use Rattle.stepping.proofs.Steps.{steps-k}
 use Rattle.evaluator.proofs.Kept.{passes-exactly}
-use Rattle.evaluator.proofs.Theorems.{refused-load, accepted-load, refused-advance, refused-readings, made-least}
+use Rattle.evaluator.proofs.Theorems.{refused-load, accepted-load, refused-advance, refused-readings, made-smaller}
 
 -- ---- load
 
@@ -106,7 +109,7 @@ module _ {s t : State} (e : SameBelow s t) (l : s .k ≤ all-steps) where
       rw (← e .header, ← e .steps)
       (digits-alike n _ _ _ (s .g) (t .g) (s .z) (t .z) (e .matrix) (e .residuals) (before-alike n (s .k) (s .digits) (t .digits) l (e .digits)))
 
-  left-alike : length (s .z) ≡ length (t .z) → (i : ℕ) → i < n → at (left-residuals s) i ≡ at (left-residuals t) i
+  left-alike : length (s .z) ≡ length (t .z) → (i : ℕ) → i < n → at (residuals-left s) i ≡ at (residuals-left t) i
   left-alike size i m =
       rw (← e .header, ← e .steps)
       (residuals-alike n _ _ _ (s .g) (t .g) (s .z) (t .z) (e .matrix) (e .residuals) (before-alike n (s .k) (s .digits) (t .digits) l (e .digits)) size i m)
@@ -181,9 +184,9 @@ accepted-first xs ys e = by-case (le-or-lt (first-refusal xs) 0)
     by-case (inl l) = omega arith
     by-case (inr l) = absurd (omega (arith, refused-before xs ys (first-refusal xs) l refl))
 
--- a state that advance takes is sound, and so is one whose readings are given
-taken-sound : (s : State) (ys : List Check) → first-refusal (state-checks s ++ ys) ≡ 0 → Sound s
-taken-sound s ys e = passes-exactly s .0 (accepted-first (state-checks s) ys e) .1
+-- a state that advance takes passes its limits, and so does one whose readings are given
+taken-passes-limits : (s : State) (ys : List Check) → first-refusal (state-checks s ++ ys) ≡ 0 → PassesLimits s
+taken-passes-limits s ys e = passes-exactly s .0 (accepted-first (state-checks s) ys e) .1
 
 module _ {s t : State} (budget : ℕ) (e : SameBelow s t) where
   all-made-alike : all-made s ≡ all-made t
@@ -202,8 +205,8 @@ module _ {s t : State} (budget : ℕ) (e : SameBelow s t) where
   made-room : advance-refusal s budget ≡ 0 → s .k + steps-made s budget ≤ all-steps
   unfolding advanced advance-checks
   made-room z =
-      let p = taken-sound s ((22, no-budget budget) ∷ (21, all-made s) ∷ []) z in
-      omega (arith, made-least s budget z, least-most budget (state-last s - s .k), p .steps, last-small (s .header) (p .limits))
+      let p = taken-passes-limits s ((22, no-budget budget) ∷ (21, all-made s) ∷ []) z in
+      omega (arith, made-smaller s budget z, smaller-most budget (state-last s - s .k), p .steps, last-small (s .header) (p .limits))
 
   alike-after : SameLengths s t
       → SameBelow (advanced s budget .state) (advanced t budget .state) × SameLengths (advanced s budget .state) (advanced t budget .state)
@@ -252,7 +255,7 @@ module _ {s t : State} (e : SameBelow s t) where
       by-case : (readings-refusal s (length out) ≤ 0) ⊎ (0 < readings-refusal s (length out)) → readings-list s out ≡ readings-list t out
       by-case (inl l) =
           let z : readings-refusal s (length out) ≡ 0 = omega arith in
-          let p = taken-sound s ((23, list-too-short s (length out)) ∷ []) z in
+          let p = taken-passes-limits s ((23, readings-list-too-short s (length out)) ∷ []) z in
           let a : s .k ≤ all-steps = omega (arith, p .steps, last-small (s .header) (p .limits)) in
           rw (← readings-refused-alike (length out), z, ← e .header, ← e .steps)
           (ap (λ (v : List ℤ). v ++ drop (s .header .n) out)

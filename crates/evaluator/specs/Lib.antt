@@ -1,5 +1,4 @@
 pub mod Evaluator
-pub mod Readable
-pub mod Step
-pub mod Steppable
+pub mod Theorems
 pub mod PastOrder
+pub mod Inner

@@ -13,7 +13,7 @@ use Prim.Native.Nat.{ℕ, _<_, _≤_}
 use lib.IntN.{ℤ, pos}
 use lib.ListN.{length}
 use Rattle.integers.specs.Flat.{at, entry}
-use Rattle.state.specs.Digits.{all-steps}
+use Rattle.state.specs.State.{all-steps}
 use Rattle.state.specs.declared.State.{State}
 use Rattle.state.specs.PastOrder.{SameBelow}
 use Rattle.evaluator.specs.Evaluator.{loaded, advanced, readings-refusal, readings-list}

@@ -1,4 +1,8 @@
-pub mod Header
+pub mod Valid
+pub mod RoundTrip
+pub mod Verdicts
+pub mod ReadJob
+pub mod Theorems
 pub mod Unpacking
 pub mod Reader
 pub mod Writer

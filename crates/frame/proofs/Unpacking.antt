@@ -1,4 +1,4 @@
--- The laws of the code of `src/lib.rt` for refusals 1 to 7 and for unpacking, over its variables. Assumes nothing.
+-- The laws of the code of `src/lib.rt` for refusals 1 to 7 and for unpacking, over its variables.
 use mathlib.Core.Path.{_≡_, sym, ap, _∙_}
 use mathlib.Core.Bool.{Bool, true, false, not}
 use mathlib.Core.List.{List, [], _∷_, _++_}
@@ -11,16 +11,19 @@ use lib.ListN.{length, drop}
 use Rattle.bitfields.specs.Layout.{field, fill}
 use Rattle.bitfields.specs.Twos.{numbers}
 use Rattle.job.specs.Header.{count, read-checks}
-use Rattle.job.specs.Kind.{kind-of}
+use Rattle.job.specs.Kind.{kind-of, most-numbers}
 use Rattle.job.specs.Limits.{Limits}
 use Rattle.job.proofs.Limits.{count-most}
 use Rattle.job.specs.Refusal.{first-refusal}
 use Rattle.job.proofs.Refusal.{refused-before, accepted-before}
 use Rattle.job.specs.declared.Header.{Header}
+use Rattle.header.specs.Header.{header-bits, header-of}
+use Rattle.header.proofs.Header.{header-is}
 use Rattle.frame.specs.declared.FrameRead.{FrameRead}
-use Rattle.frame.specs.Frame.{header-of, frame-bits, frame-length, wrong-length, fill-bit-set}
-use Rattle.frame.specs.Valid.{frame-bits-most, header-is}
-use Rattle.frame.specs.Unpack.{layout-refusal, refused-answer, unpack-answer, unpacked, layout-laid}
+use Rattle.frame.specs.Frame.{frame-bits, frame-length, frame-wrong-length, frame-fill-bit-set}
+use Rattle.frame.proofs.Valid.{frame-bits-most}
+use Rattle.frame.specs.Inner.{layout-refusal, refused-answer, unpack-answer, unpacked}
+use Rattle.frame.proofs.ReadJob.{layout-laid}
 
 -- ---- refusals 1 to 7
 
@@ -39,20 +42,20 @@ module _ {s : List ℕ} {h : Header} {c : ℕ} (k : HeaderRead s h c) where
   unfolding layout-refusal
   header-decides z =
       rw (le-ltb (length s) 3 (k .long))
-      (sym (refused-before (read-checks (header-of s)) ((6, wrong-length s) ∷ (7, fill-bit-set s) ∷ []) c z (rw (k .header) at (sym (k .refusal)))))
+      (sym (refused-before (read-checks (header-of s)) ((6, frame-wrong-length s) ∷ (7, frame-fill-bit-set s) ∷ []) c z (rw (k .header) at (sym (k .refusal)))))
 
   module _ (z : c ≤ 0) where
     no-refusal : first-refusal (read-checks h) ≡ 0
     no-refusal = omega (arith, k .refusal)
 
-    pub header-limits : Limits h
-    header-limits = rw (← k .header) at (header-is s .0 (rw (k .header) at no-refusal))
+    pub layout-header-limits : Limits h
+    layout-header-limits = rw (← k .header) at (header-is s .0 (rw (k .header) at no-refusal))
 
-    past-header : layout-refusal s ≡ first-refusal ((6, wrong-length s) ∷ (7, fill-bit-set s) ∷ [])
+    past-header : layout-refusal s ≡ first-refusal ((6, frame-wrong-length s) ∷ (7, frame-fill-bit-set s) ∷ [])
     unfolding layout-refusal
     past-header =
         rw (le-ltb (length s) 3 (k .long))
-        (accepted-before (read-checks (header-of s)) ((6, wrong-length s) ∷ (7, fill-bit-set s) ∷ []) tt (rw (k .header) at no-refusal))
+        (accepted-before (read-checks (header-of s)) ((6, frame-wrong-length s) ∷ (7, frame-fill-bit-set s) ∷ []) tt (rw (k .header) at no-refusal))
 
     module _ {b : ℕ} (f : b ≡ frame-length h) where
       pub length-decides : (length s ≡ b → ⊥) → 6 ≡ layout-refusal s
@@ -95,15 +98,15 @@ module _ {s : List ℕ} {h : Header} (k : LayoutRead s h) where
   layout-limits = rw (← k .header) at (layout-laid s (k .accepted) .limits)
 
   module _ {n : ℕ} (e : n ≡ count h) where
-    pub unpack-room : (v : List ℤ) → length v ≡ 272
-        → (24 + (h .f + 2) * n ≤ 8 * length s) × (n ≤ length v) × (0 < h .f + 2) × (h .f + 2 ≤ 48) × (length s ≤ 65536)
+    pub unpack-room : (v : List ℤ) → most-numbers ≤ length v
+        → (header-bits + (h .f + 2) * n ≤ 8 * length s) × (n ≤ length v) × (0 < h .f + 2) × (h .f + 2 ≤ 48) × (length s ≤ 65536)
     unpack-room v w =
         let l = layout-limits in
         let size : length s ≡ frame-length h = layout-laid s (k .accepted) .size ∙ ap frame-length (sym (k .header)) in
-        rw (e, w)
-        (omega (arith, size), count-most (kind-of (h .kind)) (h .n) (l .order-most), omega arith, omega (arith, l .fraction-most), omega (arith, size, frame-bits-most l))
+        rw e
+        (omega (arith, size), omega (arith, w, count-most (kind-of (h .kind)) (h .n) (l .order-most)), omega arith, omega (arith, l .fraction-most), omega (arith, size, frame-bits-most l))
 
-    pub unpack-accepted : (v : List ℤ) {out : List ℤ} → out ≡ numbers s 24 (h .f + 2) n ++ drop n v
+    pub unpack-accepted : (v : List ℤ) {out : List ℤ} → out ≡ numbers s header-bits (h .f + 2) n ++ drop n v
         → (record { refusal = 0; row = 0; header = h } ≡ unpack-answer s) × (out ≡ unpacked s v)
     unfolding unpack-answer unpacked
     unpack-accepted v o = (rw (k .accepted, k .header), rw (k .accepted) (rw (e, k .header) at o))

@@ -1,6 +1,3 @@
 pub mod Frame
-pub mod Valid
-pub mod RoundTrip
-pub mod Verdicts
-pub mod Unpack
 pub mod Theorems
+pub mod Inner

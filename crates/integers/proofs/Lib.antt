@@ -1,1 +1,15 @@
+pub mod Parts
+pub mod Order
+pub mod Absolute
+pub mod Ring
+pub mod Normal
+pub mod Linear
+pub mod Maximum
+pub mod Sum
+pub mod Product
+pub mod Power
+pub mod Flat
+pub mod Stores
+pub mod Machine
 pub mod Below
+pub mod Guide

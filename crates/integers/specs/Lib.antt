@@ -1,13 +1,3 @@
-pub mod Parts
-pub mod Order
-pub mod Absolute
-pub mod Ring
-pub mod Normal
-pub mod Linear
-pub mod Maximum
+pub mod Within
 pub mod Sum
-pub mod Power
-pub mod Machine
-pub mod Guide
-pub mod Product
 pub mod Flat

@@ -1,10 +1,11 @@
-// Signed integers: the casts that code on them needs, each a function with its clean value as its promise, and in specs/ the laws
-// that proofs about them need. specs/Guide.antt shows the ring normaliser, linear inequalities and machine arithmetic at work, a line each.
+// Signed integers: the casts that code on them needs, each a function with its clean value as its promise; in
+// specs/ sums, products and arrays, and in proofs/ the laws that proofs about them need. proofs/Guide.antt
+// shows the ring normaliser, linear inequalities and machine arithmetic at work, a line each.
 ghost use mathlib.Core.Path.{_≡_};
 ghost use Prim.Native.Nat.{_/_, _<_, _^_};
 ghost use lib.IntN.{pos, natAbs};
 ghost use lib.Signed.{_≤ℤ_};
-ghost use Rattle.integers.specs.Absolute.{Within};
+ghost use Rattle.integers.specs.Within.{Within};
 
 // An i8 as an i64.
 pub fn widen(z: i8) -> i64

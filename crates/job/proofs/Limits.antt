@@ -1,5 +1,5 @@
--- The limits of a header are just what refusals 2, 14, 3, 4 and 5 leave, and what they give as plain numbers. Cited wherever a
--- proof needs a bound.
+-- The limits of a header are just what refusals 2, 14, 3, 4 and 5 leave, and what they give as plain numbers.
+-- Cited wherever a proof needs a bound.
 use mathlib.Core.Path.{_≡_, refl, sym, ap, _∙_}
 use mathlib.Core.Bool.{Bool, true, false, not}
 use mathlib.Core.Logic.{_↔_, _⊎_, inl, inr}
@@ -9,11 +9,11 @@ use native.Mathlib.Omega.{arith}
 use borrow.Author.Tests.{lt-ltb, le-ltb, le-leb, leb-true, ltb-false, eqb-false, ne-eqb, not-false}
 use lib.Dec.{ltb, leb, eqb}
 use lib.Pow.{pow-mono, pow-pos}
-use Rattle.integers.specs.Maximum.{le-or-lt}
+use Rattle.integers.proofs.Maximum.{le-or-lt}
 use Rattle.job.specs.Refusal.{first-refusal, None, none, also}
 use Rattle.job.proofs.Refusal.{accepted-exactly, neither, fails, both-fail}
 use Rattle.job.specs.Header.{radix, digit-bits, unit, frame-code, trace-code, unknown-kind, read-checks-knowing, header-checks-knowing, read-checks, trace-read-checks, trace-header-checks}
-use Rattle.job.specs.Kind.{Kind, polynomial, rational, system, unused, kind-of, is-unused, count-of}
+use Rattle.job.specs.Kind.{Kind, polynomial, rational, system, unused, kind-of, is-unused, count-of, most-numbers}
 use Rattle.job.specs.Rules.{last-step, trace-steps, inner-bits, inner-unit}
 use Rattle.job.specs.declared.Header.{Header}
 use Rattle.job.specs.Limits.{Limits, LimitsExactly}
@@ -134,9 +134,6 @@ module _ (h : Header) where
     pub inner-bits-most : inner-bits h ≤ 40
     inner-bits-most = l .fraction-most
 
-    pub inner-most : inner-unit h ≤ 2 ^ 40
-    inner-most = unit-most
-
     pub inner-least : 16 ≤ inner-unit h
     inner-least = unit-least
 
@@ -173,7 +170,7 @@ radix-some code = pow-pos (digit-bits code)
 
 -- ---- how many numbers there are
 
-pub count-most : (kind : Kind) (n : ℕ) → n ≤ 16 → count-of kind n ≤ 272
+pub count-most : (kind : Kind) (n : ℕ) → n ≤ 16 → count-of kind n ≤ most-numbers
 count-most polynomial n h = omega arith
 count-most rational n h = omega arith
 count-most system n h = let more : n + 1 ≤ 17 = omega arith in omega (arith, mul-le-mul h more)

@@ -1,14 +1,14 @@
--- The law of refusals: a list of checks decides the number that is answered, whichever list it is (demand 1). And laws of tests
--- and of choices by a refusal number, which every crate with checks cites.
-use mathlib.Core.Path.{_≡_, refl}
-use mathlib.Core.Bool.{Bool, true, false, not, cond, _||_}
+-- The law of refusals: a list of checks decides the number that is answered, whichever list it is (demand 1).
+-- And laws of tests and of choices by a refusal number, which every crate with checks cites.
+use mathlib.Core.Path.{_≡_, refl, sym}
+use mathlib.Core.Bool.{Bool, true, false, not, cond, _||_, true≢false}
 use mathlib.Core.List.{List, [], _∷_, _++_}
 use mathlib.Core.Logic.{_↔_}
 use Prim.Native.Nat.{ℕ, zero, suc, _<_}
 use native.Mathlib.Omega.{arith}
 use borrow.Author.Tests.{eq-eqb, ne-eqb}
 use lib.Dec.{T, ltb, ltb→lt, eqb, eqb→eq, eqb·suc-zero}
-use Rattle.integers.specs.Normal.{both, both-left, both-right}
+use Rattle.integers.proofs.Normal.{both, both-left, both-right}
 use Rattle.job.specs.Refusal.{Check, first-refusal, First, here, later, None, none, also, Decides}
 
 -- no number is 0, which stands for accepted
@@ -70,13 +70,23 @@ fails false t = refl
 pub not-failed : (b : Bool) → b ≡ false → T (not b)
 not-failed b e = rw e tt
 
+-- either test fails exactly when both do
+pub or-fails : (a b : Bool) → ((a || b) ≡ false) ↔ ((a ≡ false) × (b ≡ false))
+or-fails true b = ((λ e. absurd (true≢false e)), (λ e. e .0))
+or-fails false b = ((λ e. (refl, e)), (λ e. e .1))
+
 pub neither : (a b : Bool) → T (not (a || b)) → (a ≡ false) × (b ≡ false)
-neither true b t = absurd t
-neither false true t = absurd t
-neither false false t = (refl, refl)
+neither a b t = or-fails a b .0 (fails (a || b) t)
 
 pub both-fail : (a b : Bool) → a ≡ false → b ≡ false → T (not (a || b))
-both-fail a b e f = rw (e, f) tt
+both-fail a b e f = not-failed (a || b) (or-fails a b .1 (e, f))
+
+-- two tests that fail together are one
+pub same-test : (a b : Bool) → (a ≡ false → b ≡ false) → (b ≡ false → a ≡ false) → a ≡ b
+same-test true true f g = refl
+same-test true false f g = g refl
+same-test false true f g = sym (f refl)
+same-test false false f g = refl
 
 -- an equality that is not found to fail
 pub equal : (a b : ℕ) → T (not (not (eqb a b))) → a ≡ b

@@ -1,5 +1,5 @@
--- The header of a job (document 01, "Job frame"), its limits, and how many numbers and bits follow it. Cited by the readers and writers of frames
--- and traces and by what the evaluator asks of a state.
+-- The header of a job (document 01, "Job frame"), its limits, and how many numbers and bits follow it. Cited
+-- by the readers and writers of frames and traces and by what the evaluator asks of a state.
 use mathlib.Core.Bool.{Bool, not, _||_}
 use mathlib.Core.List.{List, [], _∷_}
 use Prim.Native.Nat.{ℕ, _+_, _*_, _-_, _/_, _^_}
@@ -37,24 +37,24 @@ frame-code code = leb code 3
 abbrev pub trace-code : ℕ → Bool
 trace-code code = leb code 3
 
--- 2: a kind past its table, or a radix code that is not known to the call. In a frame the fields have two
--- bits, and only kind 3 is.
+-- 2: a kind past its table, or a radix code that is not known to the call. In a frame both fields have two
+-- bits, so that only kind 3 is refused.
 abbrev pub unknown-kind : Bool → Header → Bool
 unknown-kind known h = is-unused (kind-of (h .kind)) || not known
 
--- 3: p is r/2 to r - 1
+-- 3: p outside r/2 to r - 1
 abbrev pub digit-out-of-range : Header → Bool
 digit-out-of-range h = ltb (h .p) (radix (h .code) / 2) || ltb (radix (h .code) - 1) (h .p)
 
--- 4: f is 4 to 40
+-- 4: f outside 4 to 40
 abbrev pub fraction-out-of-range : Header → Bool
 fraction-out-of-range h = ltb (h .f) 4 || ltb 40 (h .f)
 
--- 5: m is 1 or more, and m × log2(r) at most 60
+-- 5: m is 0, or m × log2(r) above 60
 abbrev pub steps-out-of-range : Header → Bool
 steps-out-of-range h = eqb (h .m) 0 || ltb 60 (h .m * digit-bits (h .code))
 
--- 14: n is 1 to 16
+-- 14: n outside 1 to 16
 abbrev pub order-out-of-range : Header → Bool
 order-out-of-range h = ltb (h .n) 1 || ltb 16 (h .n)
 

@@ -1,6 +1,6 @@
 -- The kinds of a job (document 01, "Job frame"). What differs from kind to kind is said by clauses over them:
--- here how many numbers a kind has, in `System` its matrix and its right-hand sides, and in the crate `curve`
--- the exact value of its first row.
+-- here how many numbers a kind has, in the crate `system` its matrix and its right-hand sides, and in the
+-- crate `curve` the exact value of its first row.
 use mathlib.Core.Bool.{Bool, true, false}
 use Prim.Native.Nat.{ℕ, zero, suc, _+_, _*_}
 
@@ -31,3 +31,7 @@ count-of polynomial n = n + 1
 count-of rational n = 2 * n
 count-of system n = n * (n + 1)
 count-of unused n = 0
+
+-- the most numbers that a job can have: those of a system of 16 rows
+abbrev pub most-numbers : ℕ
+most-numbers = 272

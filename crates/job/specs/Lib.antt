@@ -1,7 +1,5 @@
-pub mod System
 pub mod Refusal
 pub mod Kind
 pub mod Rules
 pub mod Header
-pub mod Rows
 pub mod Limits

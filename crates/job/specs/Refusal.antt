@@ -1,5 +1,6 @@
--- Refusals: every call that can refuse has a list of checks, each a refusal number of document 01 with its condition, in
--- document 01's order. It answers the number of the first condition that holds, and 0 where none does.
+-- Refusals: every call that can refuse has a list of checks, each a refusal number of document 01 with its
+-- condition, in document 01's order. It answers the number of the first condition that holds, and 0 where
+-- none does.
 use mathlib.Core.Path.{_≡_}
 use mathlib.Core.Bool.{Bool, not, cond}
 use mathlib.Core.List.{List, [], _∷_}
@@ -26,9 +27,9 @@ pub data None : List Check → Type 0 where
   none : None []
   also : {k : ℕ} {b : Bool} {cs : List Check} → T (not b) → None cs → None ((k, b) ∷ cs)
 
--- Demand 1, of one call: its checks decide its answer. It answers c exactly when c's condition holds and none before it does,
--- and 0 exactly when no condition holds. Said of every call where the call's definitions are, and proved there by `decided`
--- of proofs/Refusal.antt.
+-- Demand 1, of one call: its checks decide its answer. It answers c exactly when c's condition holds and none
+-- before it does, and 0 exactly when no condition holds. Said of every call where the call's definitions are,
+-- and proved there by `decided` of proofs/Refusal.antt.
 pub record Decides (checks : List Check) (answer : ℕ) : Type 0 where
   pub refused : (c : ℕ) → 0 < c → (answer ≡ c) ↔ First c checks
   pub accepted : (answer ≡ 0) ↔ None checks

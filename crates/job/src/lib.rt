@@ -1,5 +1,5 @@
-// The vocabulary of jobs: the header and its limits, which refusals 2, 3, 4, 5 and 14 look at, and how many numbers a job has. The matrix, the
-// right-hand sides and the weights of rows are defined in specs/System.antt and specs/Rows.antt.
+// The vocabulary of jobs: the header and its limits, which refusals 2, 3, 4, 5 and 14 look at, and how many
+// numbers a job has.
 ghost use mathlib.Core.Path.{_≡_};
 ghost use mathlib.Core.Bool.{true};
 ghost use Prim.Native.Nat.{_≤_};
@@ -25,8 +25,17 @@ ghost use Rattle.job.specs.Header.{
 ghost use Rattle.job.specs.Refusal.{first-refusal};
 ghost use Rattle.job.specs.Rules.{last-step, trace-steps, inner-bits};
 
-// The header of a job frame, with the order n as a number from 1: kind (0 polynomial, 1 rational, 2 system), radix code, largest
-// digit p, fraction bits f, order n, steps m.
+// The largest order: the rows, and the columns, that arrays have room for.
+pub const ROWS: usize = 16;
+
+// The most steps of a job, which radix 2 has, at 60 bits a row.
+pub const STEPS: usize = 60;
+
+// The most numbers of a job: a system's 16 rows, each with its right-hand side.
+pub const NUMBERS: usize = ROWS * (ROWS + 1);
+
+// The header of a job frame, with the order n as a number from 1: kind (0 polynomial, 1 rational, 2 system),
+// radix code, largest digit p, fraction bits f, order n, steps m.
 pub struct Header {
     pub kind: usize,
     pub code: usize,
@@ -139,7 +148,7 @@ fn unknown_kind(h: Header, known: bool) -> bool
 pub fn order_out_of_range(h: Header) -> bool
     ensures { λ r. ⌜ r ≡ order-out-of-range h ⌝ }
 {
-    h.n < 1 || 16 < h.n
+    h.n < 1 || ROWS < h.n
 }
 
 // 3: p outside r/2 to r - 1.

@@ -1,4 +1,5 @@
--- What `print_frame` answers and leaves, in a buffer with too little room and in one with enough. Cited by its proof and by the programs that call it.
+-- What `print_frame` answers and leaves, in a buffer with too little room and in one with enough. Cited by
+-- its proof and by the programs that call it.
 use mathlib.Core.Path.{_≡_, refl}
 use mathlib.Core.List.{List}
 use mathlib.Core.Logic.{_⊎_, inl, inr}
@@ -6,27 +7,32 @@ use Prim.Native.Nat.{ℕ, _<_, _≤_}
 use native.Mathlib.Omega.{arith}
 use borrow.Author.Tests.{lt-ltb, le-ltb}
 use lib.ListN.{length}
-use Rattle.integers.specs.Maximum.{le-or-lt}
+use Rattle.integers.proofs.Maximum.{le-or-lt}
 use Rattle.text.specs.Text.{with-text}
 use Rattle.text.proofs.Putting.{text-inside}
-use Rattle.printout.specs.Printout.{frame-text, print-checks, print-answer, print-buffer}
+use Rattle.printout.specs.Printout.{frame-text, print-checks, print-answer, print-buffer, PrintDecided, text-room}
 use Rattle.printout.specs.declared.Printed.{Printed}
+use Rattle.job.proofs.Refusal.{decided}
+
+pub print-decided : PrintDecided
+unfolding print-checks
+print-decided room = decided (print-checks room) tt
 
 module _ (s out : List ℕ) where
-  pub answer-refused : length out < 32768 → _≡_ {A = Printed} (record { refusal = 23; length = 0 }) (print-answer s (length out)) × (out ≡ print-buffer s out)
+  pub print-refused : length out < text-room → _≡_ {A = Printed} (record { refusal = 23; length = 0 }) (print-answer s (length out)) × (out ≡ print-buffer s out)
   unfolding print-checks print-answer print-buffer
-  answer-refused h = rw (lt-ltb (length out) 32768 h) (refl, refl)
+  print-refused h = rw (lt-ltb (length out) text-room h) (refl, refl)
 
-  pub answer-printed : (n : ℕ) (after : List ℕ) → 32768 ≤ length out → n ≡ length (frame-text s) → after ≡ with-text out 0 (frame-text s)
+  pub print-accepted : (n : ℕ) (after : List ℕ) → text-room ≤ length out → n ≡ length (frame-text s) → after ≡ with-text out 0 (frame-text s)
       → _≡_ {A = Printed} (record { refusal = 0; length = n }) (print-answer s (length out)) × (after ≡ print-buffer s out)
   unfolding print-checks print-answer print-buffer
-  answer-printed n after h e f = rw (le-ltb (length out) 32768 h, e, f) (refl, refl)
+  print-accepted n after h e f = rw (le-ltb (length out) text-room h, e, f) (refl, refl)
 
   -- the bytes put lie within the buffer: with a refusal there are none
-  length-inside : (32768 ≤ length out) ⊎ (length out < 32768) → print-answer s (length out) .length ≤ length (print-buffer s out)
+  length-inside : (text-room ≤ length out) ⊎ (length out < text-room) → print-answer s (length out) .length ≤ length (print-buffer s out)
   unfolding print-checks print-answer print-buffer
-  length-inside (inl h) = rw (le-ltb (length out) 32768 h) (text-inside out (frame-text s) refl refl)
-  length-inside (inr h) = rw (lt-ltb (length out) 32768 h) (omega arith)
+  length-inside (inl h) = rw (le-ltb (length out) text-room h) (text-inside out (frame-text s) refl refl)
+  length-inside (inr h) = rw (lt-ltb (length out) text-room h) (omega arith)
 
   pub printed-inside : (r : Printed) (after : List ℕ) → r ≡ print-answer s (length out) → after ≡ print-buffer s out → r .length ≤ length after
-  printed-inside r after e f = rw (e, f) (length-inside (le-or-lt 32768 (length out)))
+  printed-inside r after e f = rw (e, f) (length-inside (le-or-lt text-room (length out)))

@@ -1,4 +1,5 @@
--- Whole frames: what load and advance make of one, and that the lines put are its text. Cited by the proof of `put_frame`.
+-- Whole frames: what load and advance make of one, and that the lines put are its text. Cited by the proof
+-- of `put_frame_text`.
 use mathlib.Core.Path.{_≡_, sym, ap, _∙_}
 use mathlib.Core.List.{List, [], _∷_}
 use mathlib.Core.Logic.{_⊎_, inl, inr}
@@ -7,21 +8,23 @@ use native.Mathlib.Omega.{arith}
 use borrow.Author.Tests.{eq-eqb, ne-eqb, le-leb, lt-leb}
 use lib.IntN.{ℤ}
 use lib.ListN.{length}
-use Rattle.integers.specs.Maximum.{le-or-lt}
+use Rattle.integers.proofs.Maximum.{le-or-lt}
 use Rattle.job.specs.Rules.{last-step}
 use Rattle.job.specs.Limits.{Limits}
 use Rattle.job.proofs.Limits.{last-least, last-small}
 use Rattle.job.specs.Refusal.{first-refusal}
 use Rattle.job.proofs.Refusal.{accepted-before}
 use Rattle.job.specs.declared.Header.{Header}
-use Rattle.frame.specs.Frame.{frame-refusal, row-of, header-of, frame-numbers}
+use Rattle.frame.specs.Frame.{frame-refusal, frame-row, frame-numbers}
+use Rattle.header.specs.Header.{header-of}
 use Rattle.state.specs.State.{fresh, state-checks}
 use Rattle.state.specs.declared.State.{State}
-use Rattle.evaluator.specs.Evaluator.{loaded, steps, no-budget, all-made, advance-checks, advance-refusal, least, advanced}
+use Rattle.evaluator.specs.Evaluator.{loaded, no-budget, all-made, advance-checks, advance-refusal, smaller, advanced}
+use Rattle.stepping.specs.Steps.{steps}
 use Rattle.evaluator.specs.declared.Loaded.{Loaded}
 use Rattle.evaluator.specs.declared.Advanced.{Advanced}
-use Rattle.evaluator.proofs.Kept.{loaded-sound, loaded-passes}
-use Rattle.evaluator.proofs.Theorems.{accepted-load, made-least}
+use Rattle.evaluator.proofs.Kept.{loaded-passes-limits, loaded-passes}
+use Rattle.evaluator.proofs.Theorems.{accepted-load, made-smaller}
 use Rattle.text.specs.Text.{with-text, Put}
 use Rattle.printout.specs.Printout.{job-text, refused-text, frame-text}
 
@@ -31,10 +34,10 @@ whole text e p = rw e (omega (arith, p .ends), p .holds)
 
 -- ---- a fresh job makes all its steps with a budget of 60
 
-least-all : (m : ℕ) → m ≤ 60 → least 60 m ≡ m
+least-all : (m : ℕ) → m ≤ 60 → smaller 60 m ≡ m
 least-all m h = by-order (le-or-lt 60 m)
   where
-    by-order : (60 ≤ m) ⊎ (m < 60) → least 60 m ≡ m
+    by-order : (60 ≤ m) ⊎ (m < 60) → smaller 60 m ≡ m
     by-order (inl l) = rw (le-leb 60 m l) (omega arith)
     by-order (inr l) = rw (lt-leb 60 m l)
 
@@ -47,7 +50,7 @@ module _ (h : Header) (v : List ℤ) (p : first-refusal (state-checks (fresh h v
   unfolding advanced fresh
   all-steps-made =
       let e : last-step h - 0 ≡ last-step h = omega arith in
-      ap (steps (fresh h v)) (rw e at (made-least (fresh h v) 60 advances) ∙ least-all (last-step h) most-steps)
+      ap (steps (fresh h v)) (rw e at (made-smaller (fresh h v) 60 advances) ∙ least-all (last-step h) most-steps)
 
 -- ---- l is what load answered
 
@@ -56,7 +59,7 @@ module _ (s : List ℕ) (l : Loaded) (e : l ≡ loaded s) where
   unfolding loaded
   refusal-is = ap (λ (x : Loaded). x .refusal) e
 
-  row-is : l .row ≡ row-of (frame-refusal s) (header-of s) (frame-numbers s)
+  row-is : l .row ≡ frame-row (frame-refusal s) (header-of s) (frame-numbers s)
   unfolding loaded
   row-is = ap (λ (x : Loaded). x .row) e
 
@@ -75,7 +78,7 @@ module _ (s : List ℕ) (l : Loaded) (e : l ≡ loaded s) where
 
     limits : Limits (header-of s)
     unfolding fresh
-    limits = loaded-sound s accepted .limits
+    limits = loaded-passes-limits s accepted .limits
 
     passes : first-refusal (state-checks (fresh (header-of s) (frame-numbers s))) ≡ 0
     unfolding steps

@@ -1,5 +1,5 @@
--- Jobs: what a state that passes 20 and 24 gives for its printout, that its readings are not refused, and how long its lines are. Cited by the proofs
--- of the functions that put a whole job.
+-- Jobs: what a state that passes 20 and 24 gives for its printout, that its readings are not refused, and
+-- how long its lines are. Cited by the proofs of the functions that put a whole job.
 use mathlib.Core.Path.{_≡_, refl, sym, ap, _∙_}
 use mathlib.Core.List.{List, [], _∷_, map}
 use Prim.Native.Nat.{ℕ, zero, suc, _+_, _*_, _<_, _≤_}
@@ -8,16 +8,17 @@ use borrow.Author.Tests.{le-ltb}
 use lib.IntN.{ℤ, pos}
 use lib.ListN.{length, length-append}
 use lib.Seq.{getD-take}
-use Rattle.integers.specs.Flat.{at, getD-list-from}
+use Rattle.integers.specs.Flat.{at}
+use Rattle.integers.proofs.Flat.{getD-list-from}
 use Rattle.job.specs.Header.{radix}
 use Rattle.job.proofs.Limits.{last-small}
 use Rattle.job.specs.Refusal.{first-refusal}
 use Rattle.job.proofs.Refusal.{accepted-before}
 use Rattle.job.specs.declared.Header.{Header}
-use Rattle.state.specs.Sound.{Sound}
+use Rattle.state.specs.PassesLimits.{PassesLimits}
 use Rattle.state.specs.State.{state-checks}
 use Rattle.state.specs.declared.State.{State}
-use Rattle.evaluator.specs.Evaluator.{state-reading, list-too-short, readings-checks, readings-refusal, readings-list}
+use Rattle.evaluator.specs.Evaluator.{state-reading, readings-list-too-short, readings-checks, readings-refusal, readings-list}
 use Rattle.evaluator.proofs.Kept.{passes-exactly}
 use Rattle.evaluator.proofs.Theorems.{readings-front}
 use Rattle.text.specs.Text.{decimal, line-end, Put}
@@ -46,11 +47,11 @@ items-ext i (suc k) f g h = rw (h i (omega arith) (omega arith), items-ext (suc 
 -- ---- a state that passes 20 and 24
 
 module _ (s : State) (p : first-refusal (state-checks s) ≡ 0) where
-  sound : Sound s
+  sound : PassesLimits s
   sound = passes-exactly s .0 p .1
 
-  pub code-small : s .header .code ≤ 3
-  code-small = sound .limits .code-most
+  pub radix-code-small : s .header .code ≤ 3
+  radix-code-small = sound .limits .code-most
 
   pub order-small : s .header .n ≤ 16
   order-small = sound .limits .order-most
@@ -61,7 +62,7 @@ module _ (s : State) (p : first-refusal (state-checks s) ≡ 0) where
   -- its readings are not refused
   readings-pass : (room : ℕ) → 16 ≤ room → readings-refusal s room ≡ 0
   unfolding readings-checks
-  readings-pass room h = accepted-before (state-checks s) ((23, list-too-short s room) ∷ []) tt p ∙ rw (le-ltb room (s .header .n) (omega (arith, order-small)))
+  readings-pass room h = accepted-before (state-checks s) ((23, readings-list-too-short s room) ∷ []) tt p ∙ rw (le-ltb room (s .header .n) (omega (arith, order-small)))
 
   reading-at : (y out : List ℤ) (i : ℕ) → 16 ≤ length out → y ≡ readings-list s out → i < s .header .n → at y i ≡ state-reading s i
   reading-at y out i h e l =

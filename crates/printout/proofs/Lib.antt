@@ -3,3 +3,4 @@ pub mod Jobs
 pub mod Frames
 pub mod Answers
 pub mod Longer
+pub mod Example

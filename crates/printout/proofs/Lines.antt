@@ -1,4 +1,5 @@
--- Lines of items put into a buffer one after the other. Cited by the proofs of the functions that put the lines.
+-- Lines of items put into a buffer one after the other. Cited by the proofs of the functions that put the
+-- lines.
 use mathlib.Core.Path.{_≡_, sym, ap, _∙_}
 use mathlib.Core.Bool.{Bool, true, false, _||_}
 use mathlib.Core.List.{List, [], _∷_, _++_, append-assoc, append-nil}
@@ -11,10 +12,10 @@ use lib.ListN.{length, length-append}
 use lib.Signed.{mag}
 use mir.Syntax.{w8, w64}
 use mir.Val.{toZ, ofZ}
-use Rattle.state.specs.Digits.{digits-of}
+use Rattle.state.specs.State.{digits-of}
 use Rattle.state.specs.declared.State.{State}
-use Rattle.evaluator.proofs.Arrays.{digit-kept, number-kept}
-use Rattle.text.specs.Text.{decimal, signed-decimal, line-end, Room, Put}
+use Rattle.integers.proofs.Machine.{i8-kept, i64-kept}
+use Rattle.text.specs.Text.{decimal, signed-decimal, line-end, HasRoom, Put}
 use Rattle.text.proofs.Putting.{put-nothing, put-then, length-decimal, length-signed}
 use Rattle.printout.specs.Printout.{items-from, step-line, step-lines, refused-word, refused-text}
 
@@ -46,7 +47,7 @@ spaced-line n f = let e : 0 + n ≡ n = omega arith in rw e at (spaced-end 0 n f
 
 -- a digit that is widened is what was read
 pub digit-read : (x y : ℤ) → mag x < 2 ^ 7 → mag y < 2 ^ 63 → y ≡ toZ w8 (ofZ w8 x) → toZ w64 (ofZ w64 y) ≡ x
-digit-read x y h k e = number-kept y k ∙ e ∙ digit-kept x h
+digit-read x y h k e = i64-kept y k ∙ e ∙ i8-kept x h
 
 module _ {out : List ℕ} {at : ℕ} (f : ℕ → ℤ) where
   pub spaced-start : Put out at (spaced 0 f) out at
@@ -55,7 +56,7 @@ module _ {out : List ℕ} {at : ℕ} (f : ℕ → ℤ) where
 
   -- there is room for the next of at most 16, and for the newline
   module _ {mid : List ℕ} {i m : ℕ} (p : Put out at (spaced i f) mid m) (e : length mid ≡ length out) (room : at + 353 ≤ length out) where
-    pub next-room : (z : ℤ) → i < 16 → Room mid m (32 ∷ signed-decimal z)
+    pub next-room : (z : ℤ) → i < 16 → HasRoom mid m (32 ∷ signed-decimal z)
     next-room z l = omega (arith, p .ends, length-spaced i f, length-signed z)
 
     pub end-room : i ≤ 16 → m + 1 ≤ length mid

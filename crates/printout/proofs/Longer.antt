@@ -1,5 +1,4 @@
--- Inputs longer than every frame: the bytes past the first 1,432 change nothing, so `edigits` may cut its input there or later. Such an input is refused by
--- its header or by its length.
+-- Inputs longer than every frame: the bytes past the first 1,432 change nothing.
 use mathlib.Core.Path.{_≡_, refl, sym, ap, _∙_}
 use mathlib.Core.Bool.{Bool, true, false, not, cond}
 use mathlib.Core.List.{List}
@@ -10,20 +9,21 @@ use borrow.Author.Tests.{le-ltb, ne-eqb}
 use lib.Dec.{eqb}
 use lib.ListN.{length, take}
 use lib.Seq.{length-take-le, take-all}
-use Rattle.integers.specs.Maximum.{le-or-lt}
+use Rattle.integers.proofs.Maximum.{le-or-lt}
 use Rattle.bitfields.specs.Layout.{Bytes}
 use Rattle.bitfields.proofs.Reading.{field-part}
 use Rattle.job.specs.Header.{frame-code, unknown-kind, digit-out-of-range, fraction-out-of-range, steps-out-of-range, read-checks}
 use Rattle.job.specs.Refusal.{first-refusal}
 use Rattle.job.specs.declared.Header.{Header}
-use Rattle.frame.specs.Frame.{header-of, frame-length, frame-checks, frame-refusal}
-use Rattle.frame.specs.Theorems.{frame-length-most}
-use Rattle.frame.specs.Valid.{header-is}
-use Rattle.printout.specs.Printout.{refused-text, frame-text}
+use Rattle.header.specs.Header.{header-of}
+use Rattle.frame.specs.Frame.{frame-length, frame-checks, frame-refusal}
+use Rattle.frame.proofs.Theorems.{frame-length-most}
+use Rattle.header.proofs.Header.{header-is}
+use Rattle.printout.specs.Printout.{refused-text, frame-text, CutText}
 
 -- ---- the refusals 2 to 5, and 6 where none of them holds
 
-abbrev nested : Bool → Bool → Bool → Bool → ℕ → ℕ
+abbrev nested : (a b c d : Bool) (x : ℕ) → ℕ
 nested a b c d x = cond a 2 (cond b 3 (cond c 4 (cond d 5 x)))
 
 sixth : (a b c d e : Bool) (x : ℕ) → (nested a b c d 0 ≡ 0 → e ≡ true) → nested a b c d (cond e 6 x) ≡ nested a b c d 6
@@ -75,7 +75,7 @@ same-header s k b l h =
       field-part 0 k 18 6 b (omega arith) (omega arith),
     )
 
-pub cut-text : (s : List ℕ) (k : ℕ) → Bytes s → 1431 < k → frame-text (take k s) ≡ frame-text s
+pub cut-text : CutText
 cut-text s k b l = by-case (le-or-lt (length s) k)
   where
     by-case : (length s ≤ k) ⊎ (k < length s) → frame-text (take k s) ≡ frame-text s

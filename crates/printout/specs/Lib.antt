@@ -1,2 +1,1 @@
 pub mod Printout
-pub mod Example

@@ -1,20 +1,24 @@
--- What `edigits` prints for a frame (document 01, "Frames and digits"): a line kind, r, p, f, n, m; a line for each step, its number and the digits by row;
--- a line `=` and the readings. A refused frame prints one line: `refused`, the number, and the row for 8 and 9.
+-- What `edigits` prints for a frame (document 01, "Frames and digits"): a line kind, r, p, f, n, m; a line
+-- for each step, its number and the digits by row; a line `=` and the readings. A refused frame prints one
+-- line: `refused`, the number, and the row for 8 and 9.
+use mathlib.Core.Path.{_≡_}
 use mathlib.Core.Bool.{Bool, cond, _||_}
 use mathlib.Core.List.{List, [], _∷_, _++_}
-use Prim.Native.Nat.{ℕ, zero, suc}
+use Prim.Native.Nat.{ℕ, zero, suc, _<_}
 use lib.Dec.{eqb, ltb}
 use lib.IntN.{ℤ}
-use lib.ListN.{length}
+use lib.ListN.{length, take}
+use Rattle.bitfields.specs.Layout.{Bytes}
 use Rattle.job.specs.Rules.{last-step}
 use Rattle.job.specs.Header.{radix}
-use Rattle.job.specs.Refusal.{Check, first-refusal}
+use Rattle.job.specs.Refusal.{Check, first-refusal, Decides}
 use Rattle.job.specs.declared.Header.{Header}
-use Rattle.frame.specs.Frame.{frame-refusal, row-of, header-of, frame-numbers}
-use Rattle.state.specs.Digits.{digits-of}
-use Rattle.state.specs.State.{fresh}
+use Rattle.frame.specs.Frame.{frame-refusal, frame-row, frame-numbers}
+use Rattle.header.specs.Header.{header-of}
+use Rattle.state.specs.State.{digits-of, fresh}
 use Rattle.state.specs.declared.State.{State}
-use Rattle.evaluator.specs.Evaluator.{steps, state-reading}
+use Rattle.stepping.specs.Steps.{steps}
+use Rattle.evaluator.specs.Evaluator.{state-reading}
 use Rattle.text.specs.Text.{decimal, signed-decimal, line, with-text}
 use Rattle.printout.specs.declared.Printed.{Printed}
 
@@ -53,19 +57,33 @@ refused-text c row = line refused-word (decimal c ∷ cond (eqb c 8 || eqb c 9) 
 unfoldable pub frame-text : List ℕ → List ℕ
 frame-text s =
     cond (eqb (frame-refusal s) 0) (job-text (steps (fresh (header-of s) (frame-numbers s)) (last-step (header-of s))))
-    (refused-text (frame-refusal s) (row-of (frame-refusal s) (header-of s) (frame-numbers s)))
+    (refused-text (frame-refusal s) (frame-row (frame-refusal s) (header-of s) (frame-numbers s)))
+
+-- An input longer than every frame, which has at most 1,431 bytes, is refused by its header or its length:
+-- the bytes past those change nothing, so that `edigits` may cut its input there or later.
+abbrev pub CutText : Type 0
+CutText = (s : List ℕ) (k : ℕ) → Bytes s → 1431 < k → frame-text (take k s) ≡ frame-text s
 
 -- ---- print_frame: refused by 23. It is lent `room` bytes
 
+-- The room that every text has: 2^15 bytes are enough for a header's line of 126, 60 steps' lines of 373 and
+-- a readings' line of 354, at most.
+abbrev pub text-room : ℕ
+text-room = 32768
+
 -- 23: fewer bytes than are enough for every text
-abbrev pub buffer-too-short : ℕ → Bool
-buffer-too-short room = ltb room 32768
+abbrev pub text-buffer-too-short : ℕ → Bool
+text-buffer-too-short room = ltb room text-room
 
 unfoldable pub print-checks : ℕ → List Check
-print-checks room = (23, buffer-too-short room) ∷ []
+print-checks room = (23, text-buffer-too-short room) ∷ []
 
 abbrev pub print-refusal : ℕ → ℕ
 print-refusal room = first-refusal (print-checks room)
+
+-- demand 1
+abbrev pub PrintDecided : Type 0
+PrintDecided = (room : ℕ) → Decides (print-checks room) (print-refusal room)
 
 -- the number of bytes, 0 when refused
 unfoldable pub print-answer : List ℕ → ℕ → Printed

@@ -15,22 +15,19 @@ ghost use lib.Dec.{eqb};
 ghost use lib.IntN.{pos};
 ghost use lib.ListN.{length, getD};
 ghost use Rattle.job.specs.Refusal.{first-refusal};
-ghost use Rattle.state.specs.Digits.{digits-of};
-ghost use Rattle.state.specs.State.{state-checks};
+ghost use Rattle.state.specs.State.{digits-of, state-checks};
 ghost use Rattle.text.specs.Text.{decimal, line, line-end, with-text, Put};
-ghost use Rattle.printout.specs.Printout.{
-  items-from,
-  header-line,
-  step-lines,
-  readings-line,
-  job-text,
-  refused-text,
-  frame-text,
-  print-answer,
-  print-buffer,
-};
+ghost use Rattle.printout.specs.Printout.{items-from, header-line, step-lines, readings-line, job-text, refused-text, frame-text, text-room, print-answer, print-buffer};
 
-// What print_frame answers: a refusal number of the call itself, 0 where there is none, and the number of bytes put.
+// How many bytes print_frame is lent at least: more than any text takes, which is a header's line of 126
+// bytes, 60 lines of 373 and one of 354, at most.
+const TEXT_ROOM: usize = 32768;
+
+// The digits that a state has room for: 60 steps of 16 rows.
+const DIGITS: usize = 960;
+
+// What print_frame answers: a refusal number of the call itself, 0 where there is none, and the number of
+// bytes put.
 pub struct Printed {
     pub refusal: usize,
     pub length: usize,
@@ -49,7 +46,7 @@ fn put_fields(out: &mut [u8], at: usize, h: Header) -> usize
 }
 
 // The line kind, r, p, f, n, m.
-fn put_header(out: &mut [u8], at: usize, h: Header) -> usize
+fn put_header_line(out: &mut [u8], at: usize, h: Header) -> usize
     requires { ⌜ (h .code ≤ 3) × (at + 126 ≤ length (now out)) ⌝ }
     ensures { λ r. ⌜ Put (now (out .entry)) at (header-line h) (now (out .exit)) r ⌝ }
 {
@@ -59,7 +56,7 @@ fn put_header(out: &mut [u8], at: usize, h: Header) -> usize
 }
 
 // The digits of step t + 1 by row, each after a space, and the newline: at most 16 of 22 bytes.
-fn put_digits(out: &mut [u8], at: usize, digits: &[i8; 960], t: usize, n: usize) -> usize
+fn put_digits(out: &mut [u8], at: usize, digits: &[i8; DIGITS], t: usize, n: usize) -> usize
     requires { ⌜ (t < 60) × (n ≤ 16) × (at + 353 ≤ length (now out)) ⌝ }
     ensures { λ r. ⌜ Put (now (out .entry)) at (line-end (items-from 0 n (digits-of (now (digits .entry)) (suc t)))) (now (out .exit)) r ⌝ }
 {
@@ -73,7 +70,7 @@ fn put_digits(out: &mut [u8], at: usize, digits: &[i8; 960], t: usize, n: usize)
 }
 
 // The line of step t + 1: its number, and the digits by row.
-fn put_step(out: &mut [u8], at: usize, digits: &[i8; 960], t: usize, n: usize) -> usize
+fn put_step_line(out: &mut [u8], at: usize, digits: &[i8; DIGITS], t: usize, n: usize) -> usize
     requires { ⌜ (t < 60) × (n ≤ 16) × (at + 373 ≤ length (now out)) ⌝ }
     ensures { λ r. ⌜ Put (now (out .entry)) at (line (decimal (suc t)) (items-from 0 n (digits-of (now (digits .entry)) (suc t)))) (now (out .exit)) r ⌝ }
 {
@@ -82,7 +79,7 @@ fn put_step(out: &mut [u8], at: usize, digits: &[i8; 960], t: usize, n: usize) -
 }
 
 // The lines of all steps made: at most 60 of 373 bytes.
-fn put_steps(out: &mut [u8], at: usize, s: State) -> usize
+fn put_step_lines(out: &mut [u8], at: usize, s: State) -> usize
     requires { ⌜ (s .header .n ≤ 16) × (s .k ≤ 60) × (at + 22380 ≤ length (now out)) ⌝ }
     ensures { λ r. ⌜ Put (now (out .entry)) at (step-lines s 1 (s .k)) (now (out .exit)) r ⌝ }
 {
@@ -91,7 +88,7 @@ fn put_steps(out: &mut [u8], at: usize, s: State) -> usize
     let mut end = at;
     let mut t: usize = 0;
     while t < k {
-        end = put_step(out, end, &s.digits, t, n);
+        end = put_step_line(out, end, &s.digits, t, n);
         t += 1;
     }
     end
@@ -119,7 +116,7 @@ fn has_row(c: usize) -> bool
 }
 
 // The line of a refused frame: the number, and the row for 8 and 9.
-fn put_refused(out: &mut [u8], at: usize, c: usize, row: usize) -> usize
+fn put_refused_text(out: &mut [u8], at: usize, c: usize, row: usize) -> usize
     requires { ⌜ at + 50 ≤ length (now out) ⌝ }
     ensures { λ r. ⌜ Put (now (out .entry)) at (refused-text c row) (now (out .exit)) r ⌝ }
 {
@@ -133,7 +130,7 @@ fn put_refused(out: &mut [u8], at: usize, c: usize, row: usize) -> usize
 }
 
 // The line `=` and the readings, which are not refused.
-fn put_readings(out: &mut [u8], at: usize, s: State) -> usize
+fn put_readings_line(out: &mut [u8], at: usize, s: State) -> usize
     requires { ⌜ (first-refusal (state-checks s) ≡ 0) × (at + 354 ≤ length (now out)) ⌝ }
     ensures { λ r. ⌜ Put (now (out .entry)) at (readings-line s) (now (out .exit)) r ⌝ }
 {
@@ -144,38 +141,38 @@ fn put_readings(out: &mut [u8], at: usize, s: State) -> usize
 }
 
 // The lines of a job: the header, the steps made, and the readings.
-fn put_job(out: &mut [u8], s: State) -> usize
-    requires { ⌜ (first-refusal (state-checks s) ≡ 0) × (32768 ≤ length (now out)) ⌝ }
+fn put_job_text(out: &mut [u8], s: State) -> usize
+    requires { ⌜ (first-refusal (state-checks s) ≡ 0) × (text-room ≤ length (now out)) ⌝ }
     ensures { λ r. ⌜ Put (now (out .entry)) 0 (job-text s) (now (out .exit)) r ⌝ }
 {
-    let a = put_header(out, 0, s.header);
-    let b = put_steps(out, a, s);
-    put_readings(out, b, s)
+    let a = put_header_line(out, 0, s.header);
+    let b = put_step_lines(out, a, s);
+    put_readings_line(out, b, s)
 }
 
-// Puts the text of the frame s at the front of the buffer, and the bytes past it stay. The answer is the text's length. The room asked for is
-// more than any text takes: a header of 126 bytes, 60 lines of 373 and one of 354. No job has more than 60 steps, so that budget makes them
-// all.
-fn put_frame(s: &[u8], out: &mut [u8]) -> usize
-    requires { ⌜ 32768 ≤ length (now out) ⌝ }
+// Puts the text of the frame s at the front of the buffer, and the bytes past it stay. The answer is the
+// text's length. No job has more than 60 steps, so that budget makes them all.
+fn put_frame_text(s: &[u8], out: &mut [u8]) -> usize
+    requires { ⌜ text-room ≤ length (now out) ⌝ }
     ensures { λ r. ⌜ r ≡ length (frame-text (now (s .entry))) ⌝ }
     ensures { λ r. ⌜ now (out .exit) ≡ with-text (now (out .entry)) 0 (frame-text (now (s .entry))) ⌝ }
 {
     let l = evaluator::load(s);
     if l.refusal != 0 {
-        return put_refused(out, 0, l.refusal, l.row);
+        return put_refused_text(out, 0, l.refusal, l.row);
     }
     let a = evaluator::advance(l.state, 60);
-    put_job(out, a.state)
+    put_job_text(out, a.state)
 }
 
-// Prints the frame s: its text stands at the front of the buffer, and the bytes past it stay. A buffer of fewer than 32,768 bytes is refused by
-// 23, whatever the frame is, and all its bytes stay. The text of a refused frame is a text like any other, and no refusal of this call.
+// Prints the frame s: its text stands at the front of the buffer, and the bytes past it stay. A buffer of
+// fewer than 32,768 bytes is refused by 23, whatever the frame is, and all its bytes stay. The text of a
+// refused frame is a text like any other, and no refusal of this call.
 pub fn print_frame(s: &[u8], out: &mut [u8]) -> Printed
     ensures answer { λ r. ⌜ r ≡ print-answer (now (s .entry)) (length (now (out .entry))) ⌝ }
     ensures buffer { λ _. ⌜ now (out .exit) ≡ print-buffer (now (s .entry)) (now (out .entry)) ⌝ }
 {
-    if out.len() < 32768 {
+    if out.len() < TEXT_ROOM {
         return Printed {
             refusal: 23,
             length: 0,
@@ -183,6 +180,6 @@ pub fn print_frame(s: &[u8], out: &mut [u8]) -> Printed
     }
     Printed {
         refusal: 0,
-        length: put_frame(s, out),
+        length: put_frame_text(s, out),
     }
 }

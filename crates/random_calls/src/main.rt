@@ -1,13 +1,30 @@
-// Calls on states that no load made: any numbers in any field, and jobs made from case A with random changes, so that some of them pass 24. After each
-// call what its contract says is looked at again, word by word: a refused advance makes 0 steps and gives back every word of the state; an accepted one
-// counts the growth of k, and keeps the header, the matrix, the digits of the steps before and of the steps still to come, and all that stands past the
-// n-th row; a refused readings keeps every word of the list, and an accepted one keeps the words past the n-th. It prints how many calls of advance and of
-// readings there were for each refusal number, 0 for the accepted ones, and `ok`; at a difference it prints `wrong`.
-use job::Header;
-use state::State;
-ghost use mathlib.Core.Path.{_≡_};
-ghost use Prim.Native.Nat.{_≤_};
-ghost use lib.ListN.{length};
+// Calls on states that no load made: any numbers in any field, and jobs made from case A with random changes,
+// so that some of them pass 24. After each call what its contract says is looked at again, word by word: a
+// refused advance makes 0 steps and gives back every word of the state; an accepted one counts the growth of
+// k, and keeps the header, the matrix, the digits of the steps before and of the steps still to come, and all
+// that stands past the n-th row; a refused readings keeps every word of the list, and an accepted one keeps
+// the words past the n-th. It prints how many calls of advance and of readings there were for each refusal
+// number, 0 for the accepted ones, and `ok`; at a difference it prints `wrong`.
+//
+// Each turn makes the steps of case A as well, by load, advance and readings, by evaluate and by perform,
+// which are to give the same words.
+use emethod::Advanced;
+use emethod::Evaluated;
+use emethod::Header;
+use emethod::Loaded;
+use emethod::State;
+
+// The places for entries in a state's matrix: 16 rows of 16.
+const ENTRIES: usize = 256;
+
+// The places for residuals, one a row.
+const ROWS: usize = 16;
+
+// The places for digits: 60 steps of 16 rows.
+const DIGITS: usize = 960;
+
+// More than the largest refusal number.
+const TALLIES: usize = 32;
 
 // The next number of the random sequence.
 fn next(x: u64) -> u64 {
@@ -24,77 +41,33 @@ fn small(x: u64, most: u64) -> usize {
     ((x >> 8) % most) as usize
 }
 
-// Any signed number: half of the x, below 0 where x is odd.
-fn any_signed(x: u64) -> i64 {
+// Any number with a sign: half of x, with all bits flipped where x is odd.
+fn any_number(x: u64) -> i64 {
     let h = integers::to_signed(x / 2);
     if x % 2 == 1 {
-        return -1 - h;
+        return !h;
     }
     h
 }
 
-// Any signed number, in half of the cases one from -8 to 7.
-fn signed(x: u64) -> i64 {
+// A number with a sign: any one, or in half of the cases one from -8 to 7.
+fn number(x: u64) -> i64 {
     if x % 4 < 2 {
-        return any_signed(x);
+        return any_number(x);
     }
-    any_signed(x / 4 % 16)
+    any_number(x / 4 % 16)
 }
 
-// Any digit of 8 bits.
-fn any_digit(x: u64) -> i8 {
-    let h = (x / 2 % 128) as i8;
-    if x % 2 == 1 {
-        return -1 - h;
-    }
-    h
-}
-
-// A digit: mostly 0, and any one now and then.
+// A digit: mostly 0, and any one of 8 bits now and then.
 fn digit(x: u64) -> i8 {
     if x % 64 != 0 {
         return 0;
     }
-    any_digit(x / 64)
-}
-
-// A matrix of random numbers.
-fn random_matrix(seed: u64) -> [i64; 256] {
-    let mut g = [0i64; 256];
-    let mut x = seed;
-    let mut i: usize = 0;
-    while i < 256 {
-        x = next(x);
-        g[i] = signed(x);
-        i += 1;
+    let h = (x / 128 % 128) as i8;
+    if x / 64 % 2 == 1 {
+        return !h;
     }
-    g
-}
-
-// Residuals of random numbers.
-fn random_residuals(seed: u64) -> [i64; 16] {
-    let mut z = [0i64; 16];
-    let mut x = seed;
-    let mut i: usize = 0;
-    while i < 16 {
-        x = next(x);
-        z[i] = signed(x);
-        i += 1;
-    }
-    z
-}
-
-// Random digits, most of them 0.
-fn random_digits(seed: u64) -> [i8; 960] {
-    let mut d = [0i8; 960];
-    let mut x = seed;
-    let mut i: usize = 0;
-    while i < 960 {
-        x = next(x);
-        d[i] = digit(x);
-        i += 1;
-    }
-    d
+    h
 }
 
 // A header of random fields, near the limits or far from them.
@@ -115,24 +88,34 @@ fn random_header(seed: u64) -> Header {
     }
 }
 
-// A state of any numbers.
+// A state of any numbers: a turn for each digit, so that the matrix and the residuals are set more than once.
 fn random_state(seed: u64) -> State {
-    let a = next(seed);
-    let b = next(a);
+    let mut g = [0i64; ENTRIES];
+    let mut z = [0i64; ROWS];
+    let mut digits = [0i8; DIGITS];
+    let mut x = seed;
+    let mut i: usize = 0;
+    while i < DIGITS {
+        x = next(x);
+        g[i % ENTRIES] = number(x);
+        z[i % ROWS] = number(!x);
+        digits[i] = digit(x >> 7);
+        i += 1;
+    }
     State {
-        busy: a % 8 != 0,
-        header: random_header(b),
-        k: small(b, 62),
-        g: random_matrix(a),
-        z: random_residuals(b),
-        digits: random_digits(seed),
+        busy: x % 8 != 0,
+        header: random_header(seed),
+        k: small(x, 62),
+        g,
+        z,
+        digits,
     }
 }
 
-// The state of case A after some of its steps.
-fn case_a(seed: u64) -> State {
-    let l = evaluator::load(b"\x01\x10\x44\x10\x32\x00");
-    let a = evaluator::advance(l.state, seed % 5);
+// The state of a frame's job after the steps that a budget allows.
+fn job_after(frame: &[u8], budget: u64) -> State {
+    let l: Loaded = emethod::load(frame);
+    let a: Advanced = emethod::advance(l.state, budget);
     a.state
 }
 
@@ -155,21 +138,21 @@ fn changed_header(h: Header, which: u64, x: u64) -> Header {
 }
 
 // One entry of the matrix changed.
-fn changed_matrix(g: [i64; 256], x: u64) -> [i64; 256] {
+fn changed_matrix(g: [i64; ENTRIES], x: u64) -> [i64; ENTRIES] {
     let mut t = g;
-    t[((x >> 4) % 256) as usize] = signed(x);
+    t[((x >> 4) % ENTRIES as u64) as usize] = number(x);
     t
 }
 
 // One residual changed.
-fn changed_residuals(z: [i64; 16], x: u64) -> [i64; 16] {
+fn changed_residuals(z: [i64; ROWS], x: u64) -> [i64; ROWS] {
     let mut t = z;
-    t[((x >> 4) % 16) as usize] = signed(x);
+    t[((x >> 4) % ROWS as u64) as usize] = number(x);
     t
 }
 
 // One digit changed.
-fn changed_digits(d: [i8; 960], x: u64) -> [i8; 960] {
+fn changed_digits(d: [i8; DIGITS], x: u64) -> [i8; DIGITS] {
     let mut t = d;
     t[((x >> 4) % 64) as usize] = ((x >> 12) % 3) as i8;
     t
@@ -179,7 +162,7 @@ fn changed_digits(d: [i8; 960], x: u64) -> [i8; 960] {
 fn changed_job(seed: u64) -> State {
     let a = next(seed);
     let b = next(a);
-    let mut s = case_a(b >> 32);
+    let mut s = job_after(b"\x01\x10\x44\x10\x32\x00", (b >> 32) % 5);
     let which = a % 12;
     let h = changed_header(s.header, which, b);
     s.header = h;
@@ -213,12 +196,12 @@ fn random_budget(x: u64) -> u64 {
     y % 4
 }
 
-// Counts a call's refusal number. No number is past the table, and no count is near its end.
-fn count(counts: &mut [u64; 32], refusal: usize) {
-    if refusal < 32 {
-        let c = counts[refusal];
+// Adds one to the tally of a refusal number. No number is past the tallies, and none of them is near its end.
+fn tally(tallies: &mut [u64; TALLIES], refusal: usize) {
+    if refusal < TALLIES {
+        let c = tallies[refusal];
         if c < 1000000 {
-            counts[refusal] = c + 1;
+            tallies[refusal] = c + 1;
         }
     }
 }
@@ -228,10 +211,13 @@ fn same_header(a: Header, b: Header) -> bool {
     a.kind == b.kind && a.code == b.code && a.p == b.p && a.f == b.f && a.n == b.n && a.m == b.m
 }
 
-// Whether two matrices have the same entries, all 256.
-fn same_matrix(a: &[i64; 256], b: &[i64; 256]) -> bool {
-    let mut i: usize = 0;
-    while i < 256 {
+// Whether two lists have the same words from the place `from` on.
+fn same_from(a: &[i64], b: &[i64], from: usize) -> bool {
+    let mut i = from;
+    while i < a.len() {
+        if b.len() <= i {
+            return false;
+        }
         if a[i] != b[i] {
             return false;
         }
@@ -240,27 +226,16 @@ fn same_matrix(a: &[i64; 256], b: &[i64; 256]) -> bool {
     true
 }
 
-// Whether the residuals of the rows past the first n, up to the 16th, are the same.
-fn same_residuals(a: &[i64; 16], b: &[i64; 16], n: usize) -> bool {
-    let mut i = n;
-    while i < 16 {
-        if a[i] != b[i] {
-            return false;
-        }
-        i += 1;
-    }
-    true
-}
-
-// Whether the digit at the place i is one that steps may set: of one of the first n rows, in a step after the first k, up to the `last`.
+// Whether the digit at the place i is one that steps may set: of one of the first n rows, in a step after the
+// first k, up to the `last`.
 fn may_change(i: usize, n: usize, k: usize, last: usize) -> bool {
-    i % 16 < n && k <= i / 16 && i / 16 < last
+    i % ROWS < n && k <= i / ROWS && i / ROWS < last
 }
 
-// Whether all 960 digits are the same but those that steps may set.
-fn same_digits(a: &[i8; 960], b: &[i8; 960], n: usize, k: usize, last: usize) -> bool {
+// Whether all digits are the same but those that steps may set.
+fn digits_kept(a: &[i8; DIGITS], b: &[i8; DIGITS], n: usize, k: usize, last: usize) -> bool {
     let mut i: usize = 0;
-    while i < 960 {
+    while i < DIGITS {
         if a[i] != b[i] && !may_change(i, n, k, last) {
             return false;
         }
@@ -269,14 +244,14 @@ fn same_digits(a: &[i8; 960], b: &[i8; 960], n: usize, k: usize, last: usize) ->
     true
 }
 
-// Whether t has every word of s but those that steps set in the first n rows: k, the residuals, and the digits of the steps after the k-th. With
-// n = 0 it has every residual and every digit of s.
+// Whether t has every word of s but those that steps set in the first n rows: k, the residuals, and the
+// digits of the steps after the k-th. With n = 0 it has every residual and every digit of s.
 fn words_kept(s: State, t: State, n: usize) -> bool {
     s.busy == t.busy
         && same_header(s.header, t.header)
-        && same_matrix(&s.g, &t.g)
-        && same_residuals(&s.z, &t.z, n)
-        && same_digits(&s.digits, &t.digits, n, s.k, t.k)
+        && same_from(&s.g, &t.g, 0)
+        && same_from(&s.z, &t.z, n)
+        && digits_kept(&s.digits, &t.digits, n, s.k, t.k)
 }
 
 // Whether the count is the growth of k, above 0 and within the budget.
@@ -287,10 +262,11 @@ fn count_right(before: usize, after: usize, made: u64, budget: u64) -> bool {
     (after - before) as u64 == made
 }
 
-// An advance, and whether its answer and its state are right. With a refusal it counts 0 steps and changes no word of the state.
-fn advance_right(s: State, budget: u64, counts: &mut [u64; 32]) -> bool {
-    let a = evaluator::advance(s, budget);
-    count(counts, a.refusal);
+// An advance, and whether its answer and its state are right. With a refusal it counts 0 steps and changes no
+// word of the state.
+fn advance_right(s: State, budget: u64, tallies: &mut [u64; TALLIES]) -> bool {
+    let a = emethod::advance(s, budget);
+    tally(tallies, a.refusal);
     let t = a.state;
     if a.refusal != 0 {
         return a.made == 0 && t.k == s.k && words_kept(s, t, 0);
@@ -298,79 +274,72 @@ fn advance_right(s: State, budget: u64, counts: &mut [u64; 32]) -> bool {
     count_right(s.k, t.k, a.made, budget) && words_kept(s, t, s.header.n)
 }
 
-// The words of a list before readings: word i holds seed and i mixed.
-fn mark(seed: u64, i: usize) -> i64 {
-    any_signed(next(seed ^ (i as u64)))
-}
-
-// A list of such words.
-fn marks(seed: u64) -> [i64; 20]
-    ensures { λ r. ⌜ 20 ≡ length r ⌝ }
-{
-    let mut y = [0i64; 20];
-    let mut i: usize = 0;
-    while i < 20 {
-        y[i] = mark(seed, i);
-        i += 1;
+// A readings call into the first `room` words of a list, and whether it keeps the words that it must: all
+// that the list had `before`, or those past the n-th.
+fn readings_right(
+    s: State,
+    before: &[i64],
+    list: &mut [i64],
+    room: usize,
+    tallies: &mut [u64; TALLIES],
+) -> bool {
+    if list.len() < room {
+        return false;
     }
-    y
-}
-
-// Whether the words from the place `from` on are those that the list began with.
-fn kept(y: &[i64; 20], seed: u64, from: usize) -> bool {
-    let mut i = from;
-    while i < 20 {
-        if y[i] != mark(seed, i) {
-            return false;
-        }
-        i += 1;
-    }
-    true
-}
-
-// At most the 20 words that there are.
-fn at_most(room: usize) -> usize
-    ensures { λ r. ⌜ r ≤ 20 ⌝ }
-{
-    if 20 < room {
-        return 20;
-    }
-    room
-}
-
-// A readings call into the first `room` words of a list, and whether it keeps the words that it must.
-fn readings_right(s: State, seed: u64, room: usize, counts: &mut [u64; 32]) -> bool {
-    let mut y = marks(seed);
-    let most = at_most(room);
-    let refusal = evaluator::readings(s, &mut y[..most]);
-    count(counts, refusal);
+    let refusal = emethod::readings(s, &mut list[0..room]);
+    tally(tallies, refusal);
     if refusal != 0 {
-        return kept(&y, seed, 0);
+        return same_from(before, list, 0);
     }
-    kept(&y, seed, s.header.n)
+    same_from(before, list, s.header.n)
 }
 
-// A state from the seed: one of any numbers, or a job made from case A.
+// A state from the seed: now and then the idle one, one of any numbers, or a job made from case A.
 fn pick(seed: u64) -> State {
+    if seed % 64 == 0 {
+        return emethod::idle();
+    }
     if seed % 4 == 0 {
         return random_state(seed);
     }
     changed_job(seed)
 }
 
-// One state, an advance and a readings call; whether both are right.
-fn turn(seed: u64, advances: &mut [u64; 32], reads: &mut [u64; 32]) -> bool {
+// Whether an evaluation was accepted, made so many steps, and gave the readings of the list.
+fn agrees(e: Evaluated, made: usize, readings: &[i64], list: &[i64]) -> bool {
+    e.refusal == 0 && e.made == made && same_from(readings, list, 0)
+}
+
+// Whether a job of order 2 has the same readings and as many steps after two advances by the three ways to
+// make them.
+fn ways_agree(frame: &[u8], first: u64, second: u64) -> bool {
+    let mut called = [0i64; 2];
+    let mut evaluated = [0i64; 2];
+    let mut performed = [0i64; 2];
+    let a = emethod::advance(job_after(frame, first), second);
+    let s = a.state;
+    let refusal = emethod::readings(s, &mut called);
+    let e = emethod::evaluate(frame, &[first, second], &mut evaluated);
+    let p = emethod::perform(frame, &[0, first, 0, second, 1, 2], &mut performed);
+    refusal == 0 && agrees(e, s.k, &called, &evaluated) && agrees(p, s.k, &called, &performed)
+}
+
+// One state, an advance and a readings call, and the three ways; whether all are right. The list for the
+// readings has the words of some random matrix.
+fn turn(seed: u64, advances: &mut [u64; TALLIES], reads: &mut [u64; TALLIES]) -> bool {
     let s = pick(seed);
     let a = next(seed ^ 1);
     let b = next(a);
-    if !advance_right(s, random_budget(a), advances) {
-        return false;
-    }
-    readings_right(s, a, ((b >> 5) % 21) as usize, reads)
+    let other = random_state(b);
+    let before = other.g;
+    let mut list = before;
+    ways_agree(b"\x01\x10\x44\x10\x32\x00", a % 7, b % 7)
+        && advance_right(s, random_budget(a), advances)
+        && readings_right(s, &before, &mut list, ((b >> 5) % 21) as usize, reads)
 }
 
 // As many turns as asked for, and whether all are right.
-fn turns(most: usize, advances: &mut [u64; 32], reads: &mut [u64; 32]) -> bool {
+fn turns(most: usize, advances: &mut [u64; TALLIES], reads: &mut [u64; TALLIES]) -> bool {
     let mut x: u64 = 88172645463325252;
     let mut i: usize = 0;
     while i < most {
@@ -383,44 +352,30 @@ fn turns(most: usize, advances: &mut [u64; 32], reads: &mut [u64; 32]) -> bool {
     true
 }
 
-fn print_space() {
-    io::write_all(1, b" ");
-}
-
-fn print_newline() {
-    io::write_all(1, b"\n");
-}
-
 // A line: a refusal number, and how many calls of advance and of readings gave it.
-fn print_line(refusal: usize, advances: u64, reads: u64) {
-    io::print_decimal(1, refusal as u64);
-    print_space();
-    io::print_decimal(1, advances);
-    print_space();
-    io::print_decimal(1, reads);
-    print_newline();
-}
-
-// A line for each refusal number that some call gave.
-fn print_counts(advances: &[u64; 32], reads: &[u64; 32]) {
-    let mut i: usize = 0;
-    while i < 32 {
-        let a = advances[i];
-        let b = reads[i];
-        if a != 0 || b != 0 {
-            print_line(i, a, b);
-        }
-        i += 1;
+fn print_line(refusal: usize, advances: &[u64; TALLIES], reads: &[u64; TALLIES]) {
+    if refusal < TALLIES {
+        io::print_decimal(1, refusal as u64);
+        io::write_all(1, b" ");
+        io::print_decimal(1, advances[refusal]);
+        io::write_all(1, b" ");
+        io::print_decimal(1, reads[refusal]);
+        io::write_all(1, b"\n");
     }
 }
 
 fn main() {
-    let mut advances = [0u64; 32];
-    let mut reads = [0u64; 32];
+    let mut advances = [0u64; TALLIES];
+    let mut reads = [0u64; TALLIES];
     if !turns(4000, &mut advances, &mut reads) {
         io::write_all(1, b"wrong\n");
         return;
     }
-    print_counts(&advances, &reads);
+    print_line(0, &advances, &reads);
+    print_line(20, &advances, &reads);
+    print_line(21, &advances, &reads);
+    print_line(22, &advances, &reads);
+    print_line(23, &advances, &reads);
+    print_line(24, &advances, &reads);
     io::write_all(1, b"ok\n");
 }

@@ -1,7 +1,6 @@
-pub mod Choice
-pub mod Ready
-pub mod RowSum
-pub mod Spans
-pub mod Stepped
-pub mod Table
-pub mod Turn
+pub mod Selection
+pub mod Light
+pub mod Equations
+pub mod Row
+pub mod Theorems
+pub mod Example

@@ -1,9 +1,5 @@
-pub mod System
-pub mod Selection
-pub mod Sums
 pub mod Recurrence
+pub mod Selection
 pub mod Light
-pub mod Row
+pub mod Equations
 pub mod Theorems
-pub mod Flat
-pub mod Example

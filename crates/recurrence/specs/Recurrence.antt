@@ -1,24 +1,24 @@
--- The recurrence of the E-method (document 01, "One step"), in units of 1/u: one step, the residuals and digits of all steps, and the readings.
--- Cited by every theorem of this crate, by the steps of a state, and by the claims about whole jobs.
--- Vectors are functions of a row and matrices of a row and a column, of which those below n count.
-use mathlib.Core.Path.{_≡_, refl}
+-- The recurrence of the E-method (document 01, "One step"), in units of 1/u: one step, the residuals and
+-- digits of all steps, and the readings. Vectors are functions of a row and matrices of a row and a column,
+-- of which those below n count.
+use mathlib.Core.Path.{_≡_}
 use Prim.Native.Nat.{ℕ, zero, suc, _-_, _^_, _<_}
 use lib.IntN.{ℤ, pos, _+ℤ_, _-ℤ_, _*ℤ_}
-use Rattle.integers.specs.Product.{dot}
-use Rattle.integers.specs.Sum.{sum}
+use Rattle.integers.specs.Sum.{dot, sum}
 
 -- ---- one step, from residuals z and the digits d of the step before
 
--- r (z_i + Σ_j G_ij d_j): document 01's w, the residual shifted by a digit's place before the new digit is taken off
-unfoldable pub shifted : ℕ → ℕ → (ℕ → ℕ → ℤ) → (ℕ → ℤ) → (ℕ → ℤ) → ℕ → ℤ
+-- r (z_i + Σ_j G_ij d_j): document 01's w, the residual shifted by a digit's place before the new digit is
+-- taken off it
+unfoldable pub shifted : (n r : ℕ) (G : ℕ → ℕ → ℤ) (z d : ℕ → ℤ) (i : ℕ) → ℤ
 shifted n r G z d i = pos r *ℤ (z i +ℤ dot n (G i) d)
 
 -- the new digit, by the rule of selection
-unfoldable pub next-digit : ℕ → ℕ → (ℤ → ℤ) → (ℕ → ℕ → ℤ) → (ℕ → ℤ) → (ℕ → ℤ) → ℕ → ℤ
+unfoldable pub next-digit : (n r : ℕ) (sel : ℤ → ℤ) (G : ℕ → ℕ → ℤ) (z d : ℕ → ℤ) (i : ℕ) → ℤ
 next-digit n r sel G z d i = sel (shifted n r G z d i)
 
 -- the new residual: w less the new digit
-unfoldable pub next-residual : ℕ → ℕ → ℕ → (ℤ → ℤ) → (ℕ → ℕ → ℤ) → (ℕ → ℤ) → (ℕ → ℤ) → ℕ → ℤ
+unfoldable pub next-residual : (n r u : ℕ) (sel : ℤ → ℤ) (G : ℕ → ℕ → ℤ) (z d : ℕ → ℤ) (i : ℕ) → ℤ
 next-residual n r u sel G z d i = shifted n r G z d i -ℤ pos u *ℤ next-digit n r sel G z d i
 
 -- ---- all steps: at the start the residuals are the right-hand sides B, and the digits 0
@@ -35,30 +35,24 @@ module _ (n r u : ℕ) (sel : ℤ → ℤ) (G : ℕ → ℕ → ℤ) (B : ℕ �
 
 -- ---- readings
 
--- The reading of row i after k steps: the whole number whose radix r digits are that row's digits of the steps 1 to k, by Horner.
-unfoldable pub reading : ℕ → (ℕ → ℕ → ℤ) → ℕ → ℕ → ℤ
+-- The reading of row i after k steps: the whole number whose radix r digits are that row's digits of the
+-- steps 1 to k, by Horner's rule.
+unfoldable pub reading : (r : ℕ) (d : ℕ → ℕ → ℤ) (k i : ℕ) → ℤ
 reading r d zero i = pos 0
 reading r d (suc k) i = pos r *ℤ reading r d k i +ℤ d (suc k) i
 
 -- Document 01's words: the sum, over the steps j from 1 to k, of the digit of step j times r^(k-j).
--- `reading-sum` of `Theorems` has that it is the reading.
-unfoldable pub digit-sum : ℕ → (ℕ → ℕ → ℤ) → ℕ → ℕ → ℤ
+-- `ReadingSum` of Theorems.antt says that it is the reading.
+unfoldable pub digit-sum : (r : ℕ) (d : ℕ → ℕ → ℤ) (k i : ℕ) → ℤ
 digit-sum r d k i = sum k (λ j. d (suc j) i *ℤ pos (r ^ (k - suc j)))
 
 -- ---- the recurrence as a relation
 
--- Residuals z, digits d and readings y, by step and row, that follow the recurrence, by whatever rule the digits are chosen: those of the
--- definitions above, a program's, or digits that somebody sent.
+-- Residuals z, digits d and readings y, by step and row, that follow the recurrence, by whatever rule the
+-- digits are chosen: those of the definitions above, a program's, or digits that somebody sent.
 pub record Run (n r u : ℕ) (G : ℕ → ℕ → ℤ) (B : ℕ → ℤ) (z d y : ℕ → ℕ → ℤ) : Type 0 where
   pub z-first : (i : ℕ) → i < n → z 0 i ≡ B i
   pub d-first : (i : ℕ) → i < n → d 0 i ≡ pos 0
   pub y-first : (i : ℕ) → i < n → y 0 i ≡ pos 0
   pub z-next : (k i : ℕ) → i < n → z (suc k) i ≡ shifted n r G (z k) (d k) i -ℤ pos u *ℤ d (suc k) i
   pub y-next : (k i : ℕ) → i < n → y (suc k) i ≡ pos r *ℤ y k i +ℤ d (suc k) i
-
--- the steps by a rule of selection are such a run
-pub steps-run : (n r u : ℕ) (sel : ℤ → ℤ) (G : ℕ → ℕ → ℤ) (B : ℕ → ℤ) →
-    Run n r u G B (residual n r u sel G B) (digit n r u sel G B) (reading r (digit n r u sel G B))
-unfolding residual reading next-residual next-digit
-steps-run n r u sel G B =
-    record { z-first = λ i l. refl; d-first = λ i l. refl; y-first = λ i l. refl; z-next = λ k i l. refl; y-next = λ k i l. refl }

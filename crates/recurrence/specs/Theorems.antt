@@ -1,138 +1,68 @@
--- The theorems on the recurrence, over any radix r, largest digit p, unit u, matrix G, right-hand sides B and residual bound c / e (1/2 in
--- document 01). `identity` and `distance` hold of every run, whatever rule chose its digits. Cited by the claims about whole jobs.
-use mathlib.Core.Path.{_≡_, sym, _∙_}
-use mathlib.Core.List.{[], _∷_}
-use Prim.Native.Nat.{ℕ, zero, suc, _+_, _*_, _-_, _<_, _≤_, _^_}
-use native.Mathlib.Nat.{pow-zero, pow-suc, mul-pos, mul-le-mul-left, le-of-mul-le-mul-left}
-use native.Mathlib.Omega.{arith}
-use lib.IntN.{ℤ, pos, negℤ, natAbs, _+ℤ_, _-ℤ_, _*ℤ_}
-use Rattle.integers.specs.Absolute.{abs-add, abs-mul}
-use Rattle.integers.specs.Product.{dot, weight, dot-lin, dot-none, abs-dot}
-use Rattle.integers.specs.Maximum.{Largest, largest}
-use Rattle.integers.specs.Normal.{solve, polys}
-use Rattle.integers.specs.Sum.{sum-zero, sum-suc, sum-ext, sum-scale}
+-- The theorems on the recurrence, over any radix r, largest digit p, unit u, matrix G, right-hand sides B
+-- and residual bound c / e, which is 1/2 in document 01. `Identity` and `Distance` hold of every run,
+-- whatever rule chose its digits. Each has its proof in proofs/, `identity` that of `Identity` and so on,
+-- for all that the statement names before its equals sign.
+use mathlib.Core.Path.{_≡_}
+use mathlib.Core.Logic.{_↔_}
+use Prim.Native.Nat.{ℕ, _*_, _-_, _^_, _<_, _≤_}
+use lib.IntN.{ℤ, pos, natAbs, _+ℤ_, _-ℤ_, _*ℤ_}
+use Rattle.integers.specs.Sum.{dot}
 use Rattle.job.specs.Rules.{bound-over, bound-under}
-use Rattle.recurrence.specs.System.{Solves}
-use Rattle.recurrence.specs.Selection.{Selects, select, select-selects}
-use Rattle.recurrence.specs.Recurrence.{shifted, next-digit, next-residual, residual, digit, reading, digit-sum, Run, steps-run}
-use Rattle.recurrence.specs.Light.{Light, LightRows, Held}
-use Rattle.recurrence.specs.Row.{identity-first, identity-next, one-more, grown, error-lin, error-row, error-abs, farthest}
+use Rattle.recurrence.specs.Equations.{Solves}
+use Rattle.recurrence.specs.Light.{Light, LightRows, WithinBounds}
+use Rattle.recurrence.specs.Recurrence.{next-digit, next-residual, residual, digit, reading, digit-sum, Run}
+use Rattle.recurrence.specs.Selection.{Selects, select}
 
--- The reading by Horner is document 01's sum, of any digits.
-pub reading-sum : (r : ℕ) (d : ℕ → ℕ → ℤ) (k i : ℕ) → reading r d k i ≡ digit-sum r d k i
-unfolding reading digit-sum
-reading-sum r d zero i = sym (sum-zero _)
-reading-sum r d (suc k) i =
-    let m : suc k - suc k ≡ 0 = omega arith in
-    rw (
-      sum-suc k (λ j. d (suc j) i *ℤ pos (r ^ (suc k - suc j))),
-      sum-ext k (λ j. d (suc j) i *ℤ pos (r ^ (suc k - suc j))) (λ j. pos r *ℤ (d (suc j) i *ℤ pos (r ^ (k - suc j)))) place,
-      sum-scale k (pos r) (λ j. d (suc j) i *ℤ pos (r ^ (k - suc j))),
-      ← reading-sum r d k i,
-      m,
-      pow-zero r,
-    )
-    (last-place (pos r *ℤ reading r d k i) (d (suc k) i))
-  where
-    higher : (x y z : ℤ) → x *ℤ (y *ℤ z) ≡ z *ℤ (x *ℤ y)
-    higher x y z = solve (x ∷ y ∷ z ∷ []) (search polys depth 12) (search polys depth 12) tt
+-- The reading by Horner's rule is document 01's sum, of any digits.
+abbrev pub ReadingSum : Type 0
+ReadingSum = (r : ℕ) (d : ℕ → ℕ → ℤ) (k i : ℕ) → reading r d k i ≡ digit-sum r d k i
 
-    -- a step more puts each digit one place higher, and its own in the last place
-    place : (j : ℕ) → j < k → d (suc j) i *ℤ pos (r ^ (suc k - suc j)) ≡ pos r *ℤ (d (suc j) i *ℤ pos (r ^ (k - suc j)))
-    place j l =
-        let e : suc k - suc j ≡ suc (k - suc j) = omega arith in
-        rw (e, pow-suc r (k - suc j)) (higher (d (suc j) i) (pos (r ^ (k - suc j))) (pos r))
+-- The steps by a rule of selection are a run.
+abbrev pub StepsRun : Type 0
+StepsRun =
+    (n r u : ℕ) (sel : ℤ → ℤ) (G : ℕ → ℕ → ℤ) (B : ℕ → ℤ) →
+    Run n r u G B (residual n r u sel G B) (digit n r u sel G B) (reading r (digit n r u sel G B))
 
-    last-place : (x y : ℤ) → x +ℤ y ≡ x +ℤ y *ℤ pos 1
-    last-place x y = solve (x ∷ y ∷ []) (search polys depth 12) (search polys depth 12) tt
-
--- r^k (b - A y) = z + G d, where A is the identity less G and y are the readings after k steps over r^k: exact, for any digits whatever.
-pub identity : {n r u : ℕ} {G : ℕ → ℕ → ℤ} {B : ℕ → ℤ} {z d y : ℕ → ℕ → ℤ} → Run n r u G B z d y →
+-- r^k (b - A y) = z + G d, where A is the identity less G and y are the readings after k steps over r^k:
+-- exact, for any digits whatever.
+abbrev pub Identity : (n r u : ℕ) (G : ℕ → ℕ → ℤ) (B : ℕ → ℤ) (z d y : ℕ → ℕ → ℤ) → Type 0
+Identity n r u G B z d y =
+    Run n r u G B z d y →
     (k i : ℕ) → i < n → pos (r ^ k) *ℤ B i -ℤ (pos u *ℤ y k i -ℤ dot n (G i) (y k)) ≡ z k i +ℤ dot n (G i) (d k)
-unfolding shifted
-identity {n} {r} {u} {G} {B} {z} {d} {y} run zero i l =
-    rw (pow-zero r, run .y-first i l, run .z-first i l, dot-none n (G i) (y 0) (run .y-first), dot-none n (G i) (d 0) (run .d-first))
-    (identity-first (B i) (pos u))
-identity {n} {r} {u} {G} {B} {z} {d} {y} run (suc k) i l =
-    let s : dot n (G i) (y (suc k)) ≡ pos r *ℤ dot n (G i) (y k) +ℤ pos 1 *ℤ dot n (G i) (d (suc k)) =
-    dot-lin n (G i) (y k) (d (suc k)) (y (suc k)) (pos r) (pos 1) (λ j m. run .y-next k j m ∙ one-more (pos r) (y k j) (d (suc k) j)) in
-    rw (pow-suc r k, run .y-next k i l, run .z-next k i l, s)
-    (identity-next (pos r) (pos u) (pos (r ^ k)) (B i) (y k i) (dot n (G i) (y k)) (dot n (G i) (d k)) (z k i) (d (suc k) i) (dot n (G i) (d (suc k)))
-    (identity run k i l))
 
--- Where the rows are light and the bounds are kept, |w| is at most p + c / e units.
-pub bound : {n r p u c e : ℕ} {G : ℕ → ℕ → ℤ} {z d : ℕ → ℤ} → LightRows n r p u c e G → Held n p u c e z d →
-    (i : ℕ) → i < n → e * natAbs (shifted n r G z d i) ≤ (e * p + c) * u
-unfolding shifted
-bound {n} {r} {p} {u} {c} {e} {G} {z} {d} light h i l =
-    rw (abs-mul (pos r) (z i +ℤ dot n (G i) d))
-    (grown r p u c e (weight n (G i)) (natAbs (z i)) (natAbs (dot n (G i) d)) (natAbs (z i +ℤ dot n (G i) d))
-    (light .rows i l) (h .z-small i l) (abs-dot n (G i) d p (h .d-small)) (abs-add (z i) (dot n (G i) d)))
+-- `Light` is document 01's rule, whose 2 and 1 are e and c.
+abbrev pub LightRule : Type 0
+LightRule =
+    (r p u c e S : ℕ) → 1 ≤ r → c * (r - 1) ≤ e * p → Light r p u c e S ↔ (e * r * p * S ≤ u * (e * p - c * (r - 1)))
 
--- A step by any rule that selects keeps the bounds,
-pub held-next : {n r p u c e : ℕ} {sel : ℤ → ℤ} {G : ℕ → ℕ → ℤ} {z d : ℕ → ℤ} → Selects p u c e sel → LightRows n r p u c e G →
-    Held n p u c e z d → Held n p u c e (next-residual n r u sel G z d) (next-digit n r sel G z d)
-unfolding next-residual next-digit
-held-next {n} {r} {G} {z} {d} rule light h =
-    record {
-      z-small = λ i l. rule .left (shifted n r G z d i) (bound light h i l);
-      d-small = λ i l. rule .small (shifted n r G z d i) (bound light h i l);
-    }
+-- Document 01's choice is a rule of selection, with residuals of at most half a unit.
+abbrev pub SelectSelects : Type 0
+SelectSelects = (p u : ℕ) → 0 < u → Selects p u bound-over bound-under (select p u)
+
+-- Where the rows are light, a step by any rule that selects keeps the bounds,
+abbrev pub BoundsKeptNext : (n r p u c e : ℕ) (sel : ℤ → ℤ) (G : ℕ → ℕ → ℤ) (z d : ℕ → ℤ) → Type 0
+BoundsKeptNext n r p u c e sel G z d =
+    Selects p u c e sel → LightRows n r p u c e G →
+    WithinBounds n p u c e z d → WithinBounds n p u c e (next-residual n r u sel G z d) (next-digit n r sel G z d)
 
 -- so from small right-hand sides they are kept after every step.
-pub held : {n r p u c e : ℕ} {sel : ℤ → ℤ} {G : ℕ → ℕ → ℤ} (B : ℕ → ℤ) → Selects p u c e sel → LightRows n r p u c e G →
-    ((i : ℕ) → i < n → e * natAbs (B i) ≤ c * u) →
-    (k : ℕ) → Held n p u c e (residual n r u sel G B k) (digit n r u sel G B k)
-unfolding residual
-held B rule light small zero = record { z-small = small; d-small = λ i l. omega arith }
-held B rule light small (suc k) = held-next rule light (held B rule light small k)
+abbrev pub BoundsKept : (n r p u c e : ℕ) (sel : ℤ → ℤ) (G : ℕ → ℕ → ℤ) → Type 0
+BoundsKept n r p u c e sel G =
+    (B : ℕ → ℤ) → Selects p u c e sel → LightRows n r p u c e G → ((i : ℕ) → i < n → e * natAbs (B i) ≤ c * u) →
+    (k : ℕ) → WithinBounds n p u c e (residual n r u sel G B k) (digit n r u sel G B k)
 
--- the error of the readings after k steps, times D r^k, is a vector that solves the same rows with other right-hand sides
-module _ {n r u D : ℕ} {G : ℕ → ℕ → ℤ} {B N : ℕ → ℤ} {z d y : ℕ → ℕ → ℤ} (run : Run n r u G B z d y) (sol : Solves n u D G B N) (k : ℕ) where
-  abbrev error : ℕ → ℤ
-  error i = N i *ℤ pos (r ^ k) -ℤ pos D *ℤ y k i
-
-  error-is : (i : ℕ) → i < n → pos u *ℤ error i -ℤ dot n (G i) error ≡ pos D *ℤ (z k i +ℤ dot n (G i) (d k))
-  error-is i l =
-      rw (dot-lin n (G i) N (y k) error (pos (r ^ k)) (negℤ (pos D)) (λ j m. error-lin (N j) (pos (r ^ k)) (pos D) (y k j)))
-      (error-row (pos u) (pos (r ^ k)) (pos D) (N i) (dot n (G i) N) (B i) (y k i) (dot n (G i) (y k)) (z k i +ℤ dot n (G i) (d k))
-      (sol .solves i l) (identity run k i l))
-
-  error-largest : {p c e : ℕ} → 1 < r → 0 < c → 0 < e → 0 < u → LightRows n r p u c e G → Held n p u c e (z k) (d k) →
-      (m : Largest n (λ i. natAbs (error i))) → (r - 1) * natAbs (error (m .top)) ≤ p * D
-  error-largest {p} {c} {e} hr hc he hu light h m =
-      let i : ℕ = m .top in
-      let s : natAbs (dot n (G i) error) ≤ weight n (G i) * natAbs (error i) = abs-dot n (G i) error (natAbs (error i)) (m .most) in
-      let f : u * natAbs (error i) ≤ natAbs (dot n (G i) error) + D * natAbs (z k i +ℤ dot n (G i) (d k)) =
-      error-abs u D (error i) (dot n (G i) error) (z k i +ℤ dot n (G i) (d k)) (error-is i (m .inside)) in
-      farthest r p u c e (weight n (G i)) (natAbs (error i)) D (natAbs (z k i)) (natAbs (dot n (G i) (d k))) hr hc he hu
-      (light .rows i (m .inside)) (h .z-small i (m .inside)) (abs-dot n (G i) (d k) p (h .d-small))
-      (omega (arith, mul-le-mul-left D (abs-add (z k i) (dot n (G i) (d k)))))
-
--- |N / D - y| ≤ p / (r - 1) / r^k in every row, y being the readings after k steps over r^k: for every N and D that solve the rows, and for any
--- digits whatever that are within p at step k with residuals of at most c / e. p / (r - 1) / r^k is what a digit p in every place after the
--- k-th comes to.
-pub distance : {n r p u c e D : ℕ} {G : ℕ → ℕ → ℤ} {B N : ℕ → ℤ} {z d y : ℕ → ℕ → ℤ} → 1 < r → 0 < c → 0 < e → 0 < u →
-    LightRows n r p u c e G → Run n r u G B z d y → Solves n u D G B N →
-    (k : ℕ) → Held n p u c e (z k) (d k) →
+-- |N / D - y| ≤ p / (r - 1) / r^k in every row, y being the readings after k steps over r^k: for every N
+-- and D that solve the rows, and for any digits whatever that are within p at step k with residuals of at
+-- most c / e. p / (r - 1) / r^k is what a digit p in every place after the k-th comes to.
+abbrev pub Distance : (n r p u c e D : ℕ) (G : ℕ → ℕ → ℤ) (B N : ℕ → ℤ) (z d y : ℕ → ℕ → ℤ) → Type 0
+Distance n r p u c e D G B N z d y =
+    1 < r → 0 < c → 0 < e → 0 < u →
+    LightRows n r p u c e G → Run n r u G B z d y → Solves n u D G B N → (k : ℕ) → WithinBounds n p u c e (z k) (d k) →
     (i : ℕ) → i < n → (r - 1) * natAbs (N i *ℤ pos (r ^ k) -ℤ pos D *ℤ y k i) ≤ p * D
-distance {n} {r} hr hc he hu light run sol k h i l =
-    let m = largest n (λ j. natAbs (error run sol k j)) (omega arith) in
-    omega (arith, error-largest run sol k hr hc he hu light h m, mul-le-mul-left (r - 1) (m .most i l))
 
 -- The same of the steps by `select`, with document 01's residual bound.
-pub select-distance : {n r p u D : ℕ} {G : ℕ → ℕ → ℤ} {B N : ℕ → ℤ} → 1 < r → 0 < u →
-    LightRows n r p u bound-over bound-under G → ((i : ℕ) → i < n → bound-under * natAbs (B i) ≤ bound-over * u) → Solves n u D G B N →
+abbrev pub SelectDistance : (n r p u D : ℕ) (G : ℕ → ℕ → ℤ) (B N : ℕ → ℤ) → Type 0
+SelectDistance n r p u D G B N =
+    1 < r → 0 < u → LightRows n r p u bound-over bound-under G →
+    ((i : ℕ) → i < n → bound-under * natAbs (B i) ≤ bound-over * u) → Solves n u D G B N →
     (k i : ℕ) → i < n → (r - 1) * natAbs (N i *ℤ pos (r ^ k) -ℤ pos D *ℤ reading r (digit n r u (select p u) G B) k i) ≤ p * D
-select-distance {n} {r} {p} {u} {G} {B} hr hu light small sol k i l =
-    distance hr (omega arith) (omega arith) hu light (steps-run n r u (select p u) G B) sol k
-    (held B (select-selects p u hu) light small k) i l
-
--- Light rows are short: with a residual bound of 1/2 or more and digits below r, a row weighs at most a
--- quarter of a unit.
-pub short : (r p u c e S : ℕ) → 2 ≤ r → 1 ≤ p → p ≤ r - 1 → 0 < e → e ≤ 2 * c → Light r p u c e S → 4 * S ≤ u
-short r p u c e S hr hp h he hc l =
-    let f : c * u * suc p ≤ c * u * r = mul-le-mul-left (c * u) (omega arith) in
-    let g : p * u * e ≤ p * u * (2 * c) = mul-le-mul-left (p * u) hc in
-    let k : e * p * S * 2 ≤ e * p * S * r = mul-le-mul-left (e * p * S) hr in
-    le-of-mul-le-mul-left {k = e * p} (omega (arith, l .light)) (mul-pos he hp)

@@ -1,5 +1,5 @@
--- Refusal 24 in the order in which the code looks at its conditions: the first that holds decides, and where the others pass the digits do. Cited by
--- the proof of `breaks_limit`.
+-- Refusal 24 in the order in which the code looks at its conditions: the first that holds decides, and where
+-- the others pass the digits do. Cited by the proof of `breaks_limit`.
 use mathlib.Core.Path.{_≡_, refl, sym, _∙_}
 use mathlib.Core.Bool.{Bool, true, false, _||_}
 use Prim.Native.Nat.{ℕ, _<_, _≤_}
@@ -10,10 +10,10 @@ use Rattle.job.specs.Header.{header-checks}
 use Rattle.job.specs.Limits.{Limits}
 use Rattle.job.proofs.Limits.{limits-exactly, digit-small, last-small}
 use Rattle.job.specs.Refusal.{first-refusal}
-use Rattle.job.specs.Rows.{heavy-row, large-residual}
+use Rattle.system.specs.Rows.{heavy-row, large-residual}
 use Rattle.job.specs.Rules.{last-step}
 use Rattle.job.specs.declared.Header.{Header}
-use Rattle.state.specs.State.{state-last, header-broken, digit-broken, later-digit, breaks-limit}
+use Rattle.state.specs.State.{state-last, header-broken, digit-beyond, later-digit, breaks-limit}
 use Rattle.state.specs.declared.State.{State}
 
 -- ---- x is the header's refusal, 0
@@ -52,6 +52,6 @@ module _ (s : State) (x : ℕ) (p : x ≡ first-refusal (header-checks (s .heade
         unfolding breaks-limit
         residual-breaks j = rw (header-keeps, le-ltb (state-last s) (s .k) m, ← q, le-ltb 0 a k, ← r, lt-ltb 0 b j)
 
-        pub digits-decide : b ≤ 0 → (t : Bool) → t ≡ (digit-broken s || later-digit s) → t ≡ breaks-limit s
+        pub digits-decide : b ≤ 0 → (t : Bool) → t ≡ (digit-beyond (s .header) (s .k) (s .digits) || later-digit s) → t ≡ breaks-limit s
         unfolding breaks-limit
         digits-decide j t e = e ∙ rw (header-keeps, le-ltb (state-last s) (s .k) m, ← q, le-ltb 0 a k, ← r, le-ltb 0 b j) refl

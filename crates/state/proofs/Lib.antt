@@ -1,6 +1,7 @@
-pub mod Below
-pub mod Checks
 pub mod Digits
-mod Example
 pub mod Search
-pub mod Sound
+pub mod Checks
+pub mod PassesLimits
+pub mod PastOrder
+pub mod Lists
+mod Example

@@ -1,5 +1,5 @@
--- The search for digits above a bound: the machine's comparison, and a turn of the loop over the rows of a step. Cited by the proofs of `marked` and
--- `marks`.
+-- The search for digits above a bound: the machine's comparison, and a turn of the loop over the rows of a
+-- step. Cited by the proofs of `marked` and `rows_beyond`.
 use mathlib.Core.Path.{_≡_, refl, sym, ap, _∙_}
 use mathlib.Core.Bool.{Bool, true, false, cond, _||_, or-true, or-false}
 use mathlib.Core.List.{List}
@@ -17,10 +17,10 @@ use mir.Syntax.{w8}
 use mir.Val.{SFits, toZ, ofZ}
 use mir.Facts.{toZ-ofZ}
 use Rattle.integers.specs.Flat.{entry}
-use Rattle.integers.specs.Machine.{cast, cast-is, machs, machine-fits}
-use Rattle.integers.specs.Maximum.{le-or-lt, below-suc}
-use Rattle.state.specs.Marks.{mark-of, Within-row, Marks}
-use Rattle.state.proofs.Digits.{or-fails}
+use Rattle.integers.proofs.Machine.{cast, cast-is, machs, machine-fits}
+use Rattle.integers.proofs.Maximum.{le-or-lt, below-suc}
+use Rattle.state.specs.Inner.{mark-of, RowWithin, RowsBeyond}
+use Rattle.job.proofs.Refusal.{or-fails}
 
 -- ---- a digit x against a bound b
 
@@ -51,14 +51,14 @@ mark-after false a = sym (or-false (ltb 0 a))
 -- row i, whose marks before and after its digit of step t + 1 are a and o
 row-more : (b : ℕ) (ds : List ℤ) (j t i : ℕ) (a o : Bool)
     → j ≤ t
-    → (a ≡ false) ↔ Within-row b ds j t i
+    → (a ≡ false) ↔ RowWithin b ds j t i
     → o ≡ (a || ltb b (natAbs (entry ds t i)))
-    → (o ≡ false) ↔ Within-row b ds j (suc t) i
+    → (o ≡ false) ↔ RowWithin b ds j (suc t) i
 row-more b ds j t i a o l h e =
     let f = or-fails a (ltb b (natAbs (entry ds t i))) in
     ((λ z. all (f .0 (sym e ∙ z))), (λ w. e ∙ f .1 (h .1 (λ s g u. w s g (omega arith)), le-ltb b (natAbs (entry ds t i)) (w t l (omega arith)))))
   where
-    all : (a ≡ false) × (ltb b (natAbs (entry ds t i)) ≡ false) → Within-row b ds j (suc t) i
+    all : (a ≡ false) × (ltb b (natAbs (entry ds t i)) ≡ false) → RowWithin b ds j (suc t) i
     all p s g u =
         below-suc (λ s. j ≤ s → natAbs (entry ds s i) ≤ b) t (λ _. ltb-false b (natAbs (entry ds t i)) (p .1)) (λ s v k. h .0 (p .0) s k v) s u g
 
@@ -80,36 +80,36 @@ looked-other t k i r = by-order (le-or-lt k i)
     by-order (inr l) = let m : i < suc k = omega arith in rw (lt-ltb i k l, lt-ltb i (suc k) m)
 
 module _ (b : ℕ) (ds : List ℤ) (j : ℕ) where
-  pub marks-none : Marks b ds j (λ i. j) (replicate 16 0)
+  pub marks-none : RowsBeyond b ds j (λ i. j) (replicate 16 0)
   marks-none =
       record { size = refl; unmarked = λ i l. ((λ e t g h. absurd (omega arith)), (λ h. ap (λ (a : ℕ). ltb 0 a) (getD-replicate 16 i 0 0 l))) }
 
   -- the rows of the next step
-  pub rows-start : (t : ℕ) (m : List ℕ) → Marks b ds j (λ i. t) m → Marks b ds j (looked t 0) m
+  pub rows-start : (t : ℕ) (m : List ℕ) → RowsBeyond b ds j (λ i. t) m → RowsBeyond b ds j (looked t 0) m
   rows-start t m h = record { size = h .size; unmarked = λ i l. rw (le-ltb i 0 (omega arith)) (h .unmarked i l) }
 
-  pub rows-end : (t k : ℕ) (m : List ℕ) → k ≡ 16 → Marks b ds j (looked t k) m → Marks b ds j (λ i. t + 1) m
+  pub rows-end : (t k : ℕ) (m : List ℕ) → k ≡ 16 → RowsBeyond b ds j (looked t k) m → RowsBeyond b ds j (λ i. t + 1) m
   rows-end t k m e h =
       record { size = h .size; unmarked = λ i l. rw add-one (rw (lt-ltb i k (omega arith)) at (h .unmarked i l)) }
 
   -- row k's digit x, as the machine has it, gives the mark v
-  module _ (t k : ℕ) (m : List ℕ) (v : ℕ) (h : Marks b ds j (looked t k) m) (l : k < 16) (g : j ≤ t) (f : mag (entry ds t k) < 2 ^ 7)
+  module _ (t k : ℕ) (m : List ℕ) (v : ℕ) (h : RowsBeyond b ds j (looked t k) m) (l : k < 16) (g : j ≤ t) (f : mag (entry ds t k) < 2 ^ 7)
       (e : v ≡ cond (ltb b (natAbs (toZ w8 (ofZ w8 (entry ds t k))))) 1 (getD m k 0)) where
-    this-row : (mark-of (set m k v) k ≡ false) ↔ Within-row b ds j (suc t) k
+    this-row : (mark-of (set m k v) k ≡ false) ↔ RowWithin b ds j (suc t) k
     this-row =
         rw (getD-set-same m k v 0 (omega (arith, h .size)))
         (row-more b ds j t k (mark-of m k) (ltb 0 v) g (rw (le-ltb k k (omega arith)) at (h .unmarked k l))
         (rw (e, toZ-ofZ {w = w8} {z = entry ds t k} (record { sfits = f })) (mark-after (ltb b (natAbs (entry ds t k))) (getD m k 0))))
 
-    other-row : (i : ℕ) → i < 16 → (i ≡ k → ⊥) → (mark-of (set m k v) i ≡ false) ↔ Within-row b ds j (looked t (suc k) i) i
+    other-row : (i : ℕ) → i < 16 → (i ≡ k → ⊥) → (mark-of (set m k v) i ≡ false) ↔ RowWithin b ds j (looked t (suc k) i) i
     other-row i q r = rw (getD-set-other m k i v 0 r, looked-other t k i r) (h .unmarked i q)
 
-    pub rows-more : Marks b ds j (looked t (k + 1)) (set m k v)
+    pub rows-more : RowsBeyond b ds j (looked t (k + 1)) (set m k v)
     rows-more =
         rw add-one (record { size = length-set m k v ∙ h .size; unmarked = λ i q. by-order i q (le-or-lt i k) (le-or-lt k i) })
       where
         by-order : (i : ℕ) → i < 16 → (i ≤ k) ⊎ (k < i) → (k ≤ i) ⊎ (i < k)
-            → (mark-of (set m k v) i ≡ false) ↔ Within-row b ds j (looked t (suc k) i) i
+            → (mark-of (set m k v) i ≡ false) ↔ RowWithin b ds j (looked t (suc k) i) i
         by-order i q (inl x) (inl y) = let r : i ≡ k = omega arith in rw (r, lt-ltb k (suc k) (omega arith)) this-row
         by-order i q (inl x) (inr y) = other-row i q (λ r. omega arith)
         by-order i q (inr x) y = other-row i q (λ r. omega arith)

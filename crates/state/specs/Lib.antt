@@ -1,5 +1,4 @@
-pub mod Digits
-pub mod Marks
 pub mod State
-pub mod Sound
+pub mod PassesLimits
 pub mod PastOrder
+pub mod Inner

@@ -4,12 +4,12 @@
 use mathlib.Core.Path.{_≡_}
 use Prim.Native.Nat.{ℕ, _<_}
 use Rattle.integers.specs.Flat.{at, entry}
-use Rattle.state.specs.Digits.{all-steps}
+use Rattle.state.specs.State.{all-steps}
 use Rattle.state.specs.declared.State.{State}
 
--- The mark, the header and the steps made are the same, and so are G's entries in rows and columns below the
--- order, the residuals of the rows below it, and these rows' digits at each of the 60 steps that there is
--- room for. Of the other entries nothing is said.
+-- Whether there is a job, the header and the steps made are the same, and so are G's entries in rows and
+-- columns below the order, the residuals of the rows below it, and these rows' digits at each step that there
+-- is room for. Of the other entries nothing is said.
 pub record SameBelow (s t : State) : Type 0 where
   pub busy : s .busy ≡ t .busy
   pub header : s .header ≡ t .header

@@ -1,19 +1,18 @@
--- The state (document 01, "Calls" and "Refused because of the state"): what the idle state and a fresh job are, and the conditions of refusals 20
--- and 24. Cited by every call that takes a state.
+-- The state (document 01, "Calls" and "Refused because of the state"): its digits, what the idle state and a
+-- fresh job are, and the conditions of refusals 20 and 24. Cited by every call that takes a state.
 use mathlib.Core.Bool.{Bool, true, false, not, _||_}
 use mathlib.Core.List.{List, [], _∷_}
-use Prim.Native.Nat.{ℕ, _-_}
+use Prim.Native.Nat.{ℕ, zero, suc, _-_}
 use lib.Dec.{ltb}
-use lib.IntN.{ℤ, pos}
+use lib.IntN.{ℤ, pos, natAbs}
 use lib.ListN.{replicate}
 use Rattle.integers.specs.Flat.{at, entry, flat-vector, flat-matrix}
 use Rattle.job.specs.Header.{header-checks, zero-header}
 use Rattle.job.specs.Refusal.{Check, first-refusal}
-use Rattle.job.specs.Rows.{heavy-row, large-residual}
 use Rattle.job.specs.Rules.{last-step, inner-unit}
-use Rattle.job.specs.System.{matrix-of, right-side-of}
 use Rattle.job.specs.declared.Header.{Header}
-use Rattle.state.specs.Digits.{all-steps, beyond}
+use Rattle.system.specs.Rows.{first-row, heavy-row, large-residual}
+use Rattle.system.specs.System.{matrix-of, right-side-of}
 use Rattle.state.specs.declared.State.{State}
 
 -- the last step of a state's job, and the unit of its residuals
@@ -22,6 +21,35 @@ state-last s = last-step (s .header)
 
 abbrev pub state-unit : State → ℕ
 state-unit s = inner-unit (s .header)
+
+-- ---- the digits of all steps in one array: step j, from 1, of row i at 16 (j - 1) + i
+
+-- how many steps there is room for, and how many digits: 16 rows a step
+abbrev pub all-steps : ℕ
+all-steps = 60
+
+abbrev pub digit-places : ℕ
+digit-places = 960
+
+-- the digit of step j and row i; before the first step the digits are 0
+abbrev pub digits-of : List ℤ → ℕ → ℕ → ℤ
+digits-of ds zero i = pos 0
+digits-of ds (suc j) i = entry ds j i
+
+-- some row below n of step j + 1 has a digit whose magnitude is above the bound
+abbrev pub row-beyond : (n bound : ℕ) (ds : List ℤ) (j : ℕ) → Bool
+row-beyond n bound ds j = ltb 0 (first-row n (λ i. ltb bound (natAbs (entry ds j i))))
+
+-- one of the c steps after the first j has
+unfoldable pub beyond : (n bound : ℕ) (ds : List ℤ) (j c : ℕ) → Bool
+beyond n bound ds j zero = false
+beyond n bound ds j (suc c) = row-beyond n bound ds j || beyond n bound ds (suc j) c
+
+-- a digit beyond p in the first k steps
+abbrev pub digit-beyond : (h : Header) (k : ℕ) (ds : List ℤ) → Bool
+digit-beyond h k ds = beyond (h .n) (h .p) ds 0 k
+
+-- ---- the states that a load gives
 
 -- every number 0
 unfoldable pub idle-state : State
@@ -32,10 +60,11 @@ idle-state =
       k = 0;
       g = replicate 256 (pos 0);
       z = replicate 16 (pos 0);
-      digits = replicate 960 (pos 0);
+      digits = replicate digit-places (pos 0);
     }
 
--- the job with the header h and the numbers v, with 0 steps made: z is b, the digits are all 0, and past the order n there are zeros
+-- the job with the header h and the numbers v, with 0 steps made: z is b, the digits are all 0, and past the
+-- order n there are zeros
 unfoldable pub fresh : Header → List ℤ → State
 fresh h v =
     record {
@@ -44,7 +73,7 @@ fresh h v =
       k = 0;
       g = flat-matrix (h .n) (matrix-of h v);
       z = flat-vector (h .n) (right-side-of h v);
-      digits = replicate 960 (pos 0);
+      digits = replicate digit-places (pos 0);
     }
 
 -- ---- 24: the state's numbers break a limit
@@ -65,16 +94,14 @@ row-broken s = ltb 0 (heavy-row (s .header) (entry (s .g)))
 abbrev pub residual-broken : State → Bool
 residual-broken s = ltb 0 (large-residual (s .header) (at (s .z)))
 
--- a digit beyond p
-abbrev pub digit-broken : State → Bool
-digit-broken s = beyond (s .header .n) (s .header .p) (s .digits) 0 (s .k)
-
 -- a digit other than 0 after the k-th step
 abbrev pub later-digit : State → Bool
 later-digit s = beyond (s .header .n) 0 (s .digits) (s .k) (all-steps - s .k)
 
 unfoldable pub breaks-limit : State → Bool
-breaks-limit s = header-broken s || (steps-broken s || (row-broken s || (residual-broken s || (digit-broken s || later-digit s))))
+breaks-limit s =
+    header-broken s || (steps-broken s || (row-broken s || (residual-broken s
+    || (digit-beyond (s .header) (s .k) (s .digits) || later-digit s))))
 
 -- ---- 20, 24, which every call looks at first
 

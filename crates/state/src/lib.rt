@@ -1,26 +1,31 @@
-// The state of an evaluation: the idle state, and whether a state of any numbers keeps its limits (refusals 20 and 24).
+// The state of an evaluation: the idle state, and whether a state of any numbers keeps its limits (refusals
+// 20 and 24).
 ghost use mathlib.Core.Path.{_≡_};
 ghost use mathlib.Core.Bool.{true, cond, _||_};
 ghost use Prim.Native.Nat.{_+_, _-_, _<_, _≤_};
 ghost use lib.Dec.{ltb};
 ghost use lib.IntN.{natAbs};
 ghost use Rattle.job.specs.Refusal.{first-refusal};
-ghost use Rattle.job.specs.Rows.{first-row};
-ghost use Rattle.state.specs.Digits.{all-steps, beyond};
-ghost use Rattle.state.specs.Marks.{mark-of, Marks};
-ghost use Rattle.state.specs.Sound.{state-of};
-ghost use Rattle.state.specs.State.{idle-state, breaks-limit, state-checks};
+ghost use Rattle.system.specs.Rows.{first-row};
+ghost use Rattle.state.specs.State.{all-steps, beyond, idle-state, breaks-limit, state-checks};
+ghost use Rattle.state.specs.Inner.{mark-of, RowsBeyond, state-of};
 use job::Header;
+use job::ROWS;
+use job::STEPS;
+use system::ENTRIES;
 
-// Idle, or a job: its header, the steps made, the matrix (row i, column j at 16 i + j), the residuals, and the digits of all steps
-// (step j, from 1, of row i at 16 (j - 1) + i). The idle state has every number 0.
+// The digits of all steps.
+pub const DIGITS: usize = STEPS * ROWS;
+
+// Idle, or a job: its header, the steps made, the matrix (row i, column j at 16 i + j), the residuals, and
+// the digits of all steps (step j, from 1, of row i at 16 (j - 1) + i). The idle state has every number 0.
 pub struct State {
     pub busy: bool,
     pub header: Header,
     pub k: usize,
-    pub g: [i64; 256],
-    pub z: [i64; 16],
-    pub digits: [i8; 960],
+    pub g: [i64; ENTRIES],
+    pub z: [i64; ROWS],
+    pub digits: [i8; DIGITS],
 }
 
 // The idle state.
@@ -31,9 +36,9 @@ pub fn idle() -> State
         busy: false,
         header: job::no_header(),
         k: 0,
-        g: [0; 256],
-        z: [0; 16],
-        digits: [0; 960],
+        g: [0; ENTRIES],
+        z: [0; ROWS],
+        digits: [0; DIGITS],
     }
 }
 
@@ -46,17 +51,17 @@ fn marked(old: u8, x: i8, bound: usize) -> u8
     if (high < x) | (x < 0 - high) { 1 } else { old }
 }
 
-// A mark for each of the 16 rows that has a digit above the bound in one of the c steps after the first j. All rows of a step are looked at,
-// and none is left early, so that the machine takes them at once.
-fn marks(d: &[i8; 960], bound: usize, j: usize, c: usize) -> [u8; 16]
+// The rows that have a digit beyond the bound in one of the c steps after the first j: a mark for each. All
+// rows of a step are looked at, and none is left early, so that the machine takes them at once.
+fn rows_beyond(d: &[i8; DIGITS], bound: usize, j: usize, c: usize) -> [u8; ROWS]
     requires { ⌜ (bound ≤ 127) × (j + c ≤ 60) ⌝ }
-    ensures { λ m. ⌜ Marks bound (now (d .entry)) j (λ i. j + c) m ⌝ }
+    ensures { λ m. ⌜ RowsBeyond bound (now (d .entry)) j (λ i. j + c) m ⌝ }
 {
-    let mut m = [0u8; 16];
+    let mut m = [0u8; ROWS];
     let mut t = j;
     while t < j + c {
         let mut i: usize = 0;
-        while i < 16 {
+        while i < ROWS {
             m[i] = marked(m[i], d[16 * t + i], bound);
             i += 1;
         }
@@ -66,7 +71,7 @@ fn marks(d: &[i8; 960], bound: usize, j: usize, c: usize) -> [u8; 16]
 }
 
 // Whether one of the first n rows has a mark.
-fn any(marks: [u8; 16], n: usize) -> bool
+fn some_row(marks: [u8; ROWS], n: usize) -> bool
     requires { ⌜ n ≤ 16 ⌝ }
     ensures { λ r. ⌜ r ≡ ltb 0 (first-row n (mark-of marks)) ⌝ }
 {
@@ -80,20 +85,20 @@ fn any(marks: [u8; 16], n: usize) -> bool
     false
 }
 
-// Whether one of the first n rows has a digit above the bound in one of the c steps after the first j.
-pub fn beyond(d: &[i8; 960], n: usize, bound: usize, j: usize, c: usize) -> bool
+// Whether one of the first n rows has a digit beyond the bound in one of the c steps after the first j.
+pub fn beyond(d: &[i8; DIGITS], n: usize, bound: usize, j: usize, c: usize) -> bool
     requires { ⌜ (n ≤ 16) × (bound ≤ 127) × (j + c ≤ 60) ⌝ }
     ensures { λ r. ⌜ r ≡ beyond n bound (now (d .entry)) j c ⌝ }
 {
-    any(marks(d, bound, j, c), n)
+    some_row(rows_beyond(d, bound, j, c), n)
 }
 
 // Whether one of the first n rows has a digit beyond p in the first k steps, or one other than 0 after them.
-fn bad_digit(d: &[i8; 960], n: usize, p: usize, k: usize) -> bool
+fn bad_digit(d: &[i8; DIGITS], n: usize, p: usize, k: usize) -> bool
     requires { ⌜ (n ≤ 16) × (p ≤ 127) × (k ≤ 60) ⌝ }
     ensures { λ r. ⌜ r ≡ (beyond n p (now (d .entry)) 0 k || beyond n 0 (now (d .entry)) k (all-steps - k)) ⌝ }
 {
-    beyond(d, n, p, 0, k) | beyond(d, n, 0, k, 60 - k)
+    beyond(d, n, p, 0, k) | beyond(d, n, 0, k, STEPS - k)
 }
 
 // Refusal 24: a header field out of its limits, k above the last step, a heavy row, a residual above its
@@ -101,9 +106,9 @@ fn bad_digit(d: &[i8; 960], n: usize, p: usize, k: usize) -> bool
 fn breaks_limit<'a>(
     h: Header,
     k: usize,
-    g: &'a [i64; 256],
-    z: &'a [i64; 16],
-    digits: &'a [i8; 960],
+    g: &'a [i64; ENTRIES],
+    z: &'a [i64; ROWS],
+    digits: &'a [i8; DIGITS],
 ) -> bool
     ensures { λ r. ⌜ r ≡ breaks-limit (state-of true h k (now (g .entry)) (now (z .entry)) (now (digits .entry))) ⌝ }
 {
@@ -127,9 +132,9 @@ pub fn check<'a>(
     busy: bool,
     h: Header,
     k: usize,
-    g: &'a [i64; 256],
-    z: &'a [i64; 16],
-    digits: &'a [i8; 960],
+    g: &'a [i64; ENTRIES],
+    z: &'a [i64; ROWS],
+    digits: &'a [i8; DIGITS],
 ) -> usize
     ensures { λ r. ⌜ r ≡ first-refusal (state-checks (state-of busy h k (now (g .entry)) (now (z .entry)) (now (digits .entry)))) ⌝ }
 {

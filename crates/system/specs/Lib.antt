@@ -1,6 +1,3 @@
-pub mod Light
-pub mod FirstRow
-pub mod Weighing
-pub mod Verdict
-pub mod Numbers
-pub mod Setup
+pub mod System
+pub mod Rows
+pub mod Inner

@@ -1,6 +1,6 @@
 // Setting up the system of a job from its numbers, and weighing it (document 01, "The system"; refusals 8 and
-// 9). A matrix is an array of 256 with row i, column j at 16 * i + j, a vector an array of 16. Rows and
-// columns count from 0 here, and only row numbers that are given count from 1. Past the order n an array
+// 9). A matrix is an array with row i, column j at 16 * i + j, a vector an array with a number a row. Rows
+// and columns count from 0 here, and only row numbers that are given count from 1. Past the order n an array
 // holds zeros.
 ghost use mathlib.Core.Path.{_≡_};
 ghost use mathlib.Core.Bool.{cond};
@@ -9,42 +9,27 @@ ghost use lib.Dec.{ltb, eqb};
 ghost use lib.IntN.{pos, natAbs, _-ℤ_};
 ghost use lib.ListN.{length};
 ghost use lib.Signed.{_≤ℤ_};
-ghost use Rattle.integers.specs.Absolute.{Within};
+ghost use Rattle.integers.specs.Within.{Within};
 ghost use Rattle.integers.specs.Flat.{at, entry, flat-vector, flat-matrix, stores};
 ghost use Rattle.job.specs.Header.{count};
 ghost use Rattle.job.specs.Kind.{kind-of};
 ghost use Rattle.job.specs.Limits.{Limits};
-ghost use Rattle.job.specs.Rows.{first-row, largest-light, residual-most, heavy-row, large-row, large-residual, system-verdict};
-ghost use Rattle.job.specs.System.{
-  argument,
-  denominator,
-  no-denominator,
-  curve-entry,
-  system-entry,
-  matrix-of,
-  right-place,
-  right-side-of,
-};
-ghost use Rattle.system.specs.Numbers.{Numbers};
-ghost use Rattle.system.specs.Verdict.{verdict-of};
-ghost use Rattle.system.specs.Weighing.{too-heavy, too-large};
+ghost use Rattle.system.specs.Rows.{first-row, heavy-row, large-row, large-residual, system-verdict};
+ghost use Rattle.system.specs.Inner.{largest-light, residual-most, Numbers, verdict-from, too-heavy, too-large};
+ghost use Rattle.system.specs.System.{argument, denominator, no-denominator, curve-entry, system-entry, matrix-of, right-place, right-side-of};
 use job::Header;
+use job::ROWS;
 use job::Verdict;
 
-// The unit 2^f, in which the numbers of a job are given.
-fn unit(f: usize) -> u64
-    requires { ⌜ f ≤ 40 ⌝ }
-    ensures { λ r. ⌜ r ≡ 2 ^ f ⌝ }
-{
-    1u64 << (f as u64)
-}
+// The entries of a matrix: as many columns as rows.
+pub const ENTRIES: usize = ROWS * ROWS;
 
 // The matrix of a polynomial: x in the column after the diagonal, for which the last row has no column.
-fn polynomial_matrix(n: usize, x: i64) -> [i64; 256]
+fn polynomial_matrix(n: usize, x: i64) -> [i64; ENTRIES]
     requires { ⌜ n ≤ 16 ⌝ }
     ensures { λ r. ⌜ r ≡ flat-matrix n (curve-entry x no-denominator) ⌝ }
 {
-    let mut g = [0i64; 256];
+    let mut g = [0i64; ENTRIES];
     let mut i: usize = 0;
     while i + 1 < n {
         g[16 * i + (i + 1)] = x;
@@ -54,7 +39,7 @@ fn polynomial_matrix(n: usize, x: i64) -> [i64; 256]
 }
 
 // The matrix of a rational curve: besides x, -q in the first column of every row but the first.
-fn rational_matrix(n: usize, v: &[i64]) -> [i64; 256]
+fn rational_matrix(n: usize, v: &[i64]) -> [i64; ENTRIES]
     requires { ⌜ (1 ≤ n) × (n ≤ 16) × Numbers (2 * n) (now v) ⌝ }
     ensures { λ r. ⌜ r ≡ flat-matrix n (curve-entry (argument (now (v .entry))) (denominator n (now (v .entry)))) ⌝ }
 {
@@ -80,7 +65,7 @@ fn system_entry(u: u64, i: usize, j: usize, a: i64) -> i64
 }
 
 // Stores row i of the matrix of a system.
-fn place_row(g: &mut [i64; 256], i: usize, n: usize, u: u64, v: &[i64])
+fn place_row(g: &mut [i64; ENTRIES], i: usize, n: usize, u: u64, v: &[i64])
     requires { ⌜ (i < n) × (n ≤ 16) × (u ≤ 2 ^ 40) × Numbers (n * (n + 1)) (now v) ⌝ }
     ensures { λ _. ⌜ now (g .exit) ≡ stores (now (g .entry)) (λ j. 16 * i + j) (system-entry u n (now (v .entry)) i) n ⌝ }
 {
@@ -92,11 +77,11 @@ fn place_row(g: &mut [i64; 256], i: usize, n: usize, u: u64, v: &[i64])
 }
 
 // The matrix of a system.
-fn system_matrix(n: usize, u: u64, v: &[i64]) -> [i64; 256]
+fn system_matrix(n: usize, u: u64, v: &[i64]) -> [i64; ENTRIES]
     requires { ⌜ (n ≤ 16) × (u ≤ 2 ^ 40) × Numbers (n * (n + 1)) (now v) ⌝ }
     ensures { λ r. ⌜ r ≡ flat-matrix n (system-entry u n (now (v .entry))) ⌝ }
 {
-    let mut g = [0i64; 256];
+    let mut g = [0i64; ENTRIES];
     let mut i: usize = 0;
     while i < n {
         place_row(&mut g, i, n, u, v);
@@ -106,7 +91,7 @@ fn system_matrix(n: usize, u: u64, v: &[i64]) -> [i64; 256]
 }
 
 // The matrix G of a job, from the numbers as they are sent.
-pub fn matrix(h: Header, v: &[i64]) -> [i64; 256]
+pub fn matrix(h: Header, v: &[i64]) -> [i64; ENTRIES]
     requires { ⌜ Limits h × Numbers (count h) (now v) ⌝ }
     ensures { λ r. ⌜ r ≡ flat-matrix (h .n) (matrix-of h (now (v .entry))) ⌝ }
 {
@@ -116,7 +101,7 @@ pub fn matrix(h: Header, v: &[i64]) -> [i64; 256]
     if h.kind == 1 {
         return rational_matrix(h.n, v);
     }
-    system_matrix(h.n, unit(h.f), v)
+    system_matrix(h.n, integers::pow2(h.f), v)
 }
 
 // Where among the numbers the right-hand side of row i stands.
@@ -128,27 +113,19 @@ fn right_place(kind: usize, n: usize, i: usize) -> usize
 }
 
 // The right-hand sides of a job, from the numbers as they are sent.
-pub fn right_sides(h: Header, v: &[i64]) -> [i64; 16]
+pub fn right_sides(h: Header, v: &[i64]) -> [i64; ROWS]
     requires { ⌜ Limits h × (count h ≤ length (now v)) ⌝ }
     ensures { λ r. ⌜ r ≡ flat-vector (h .n) (right-side-of h (now (v .entry))) ⌝ }
 {
     let kind = h.kind;
     let n = h.n;
-    let mut z = [0i64; 16];
+    let mut z = [0i64; ROWS];
     let mut i: usize = 0;
     while i < n {
         z[i] = v[right_place(kind, n, i)];
         i += 1;
     }
     z
-}
-
-// The largest right-hand side that is small enough.
-fn half_unit(f: usize) -> i64
-    requires { ⌜ f ≤ 40 ⌝ }
-    ensures { λ r. ⌜ r ≡ pos (2 ^ f / 2) ⌝ }
-{
-    integers::to_signed(unit(f) / 2)
 }
 
 // The residual bound of document 01, 1/2: residuals stay within OVER / UNDER, and the rule of light rows
@@ -162,7 +139,7 @@ fn residual_most(h: Header) -> i64
     requires { ⌜ Limits h ⌝ }
     ensures { λ r. ⌜ r ≡ pos (residual-most h) ⌝ }
 {
-    integers::to_signed(OVER * unit(job::inner_bits(h)) / UNDER)
+    integers::to_signed(OVER * integers::pow2(job::inner_bits(h)) / UNDER)
 }
 
 // The largest weight that is light enough.
@@ -172,10 +149,11 @@ fn largest_light(h: Header) -> i64
 {
     let r = job::radix(h.code) as u64;
     let p = h.p as u64;
-    integers::to_signed(unit(h.f) * (UNDER * p - OVER * (r - 1)) / (UNDER * r * p))
+    integers::to_signed(integers::pow2(h.f) * (UNDER * p - OVER * (r - 1)) / (UNDER * r * p))
 }
 
-// The room that is left after an entry e: its magnitude is taken off, for any i64, since the room before it is not negative.
+// The room that is left after an entry e: its magnitude is taken off, for any i64, since the room before it
+// is not negative.
 fn room_after(room: i64, e: i64) -> i64
     requires { ⌜ pos 0 ≤ℤ room ⌝ }
     ensures { λ r. ⌜ r ≡ room -ℤ pos (natAbs e) ⌝ }
@@ -183,9 +161,10 @@ fn room_after(room: i64, e: i64) -> i64
     if e < 0 { room + e } else { room - e }
 }
 
-// The number, from 1, of the first row that weighs more than the limit; 0 where none does. Each row starts with the limit as its room.
-// A weight only grows from entry to entry, so a row is too heavy as soon as its room falls below 0.
-fn first_heavy(g: &[i64; 256], n: usize, limit: i64) -> usize
+// The number, from 1, of the first row that weighs more than the limit; 0 where none does. Each row starts
+// with the limit as its room. A weight only grows from entry to entry, so a row is too heavy as soon as its
+// room falls below 0.
+fn first_heavy(g: &[i64; ENTRIES], n: usize, limit: i64) -> usize
     requires { ⌜ (n ≤ 16) × (pos 0 ≤ℤ limit) ⌝ }
     ensures { λ r. ⌜ r ≡ first-row n (too-heavy limit n (now (g .entry))) ⌝ }
 {
@@ -216,7 +195,7 @@ fn above(e: i64, bound: i64) -> bool
 }
 
 // The number, from 1, of the first row whose number is of a magnitude above the bound; 0 where none is.
-fn first_large(z: &[i64; 16], n: usize, most: i64) -> usize
+fn first_large(z: &[i64; ROWS], n: usize, most: i64) -> usize
     requires { ⌜ (n ≤ 16) × (pos 0 ≤ℤ most) ⌝ }
     ensures { λ r. ⌜ r ≡ first-row n (too-large most (now (z .entry))) ⌝ }
 {
@@ -232,7 +211,7 @@ fn first_large(z: &[i64; 16], n: usize, most: i64) -> usize
 
 // The number of the first row that is too heavy, of any matrix; 0 where none is. Refusal 8 of a frame and its
 // limit under 24 of a state.
-pub fn heavy_row(g: &[i64; 256], h: Header) -> usize
+pub fn heavy_row(g: &[i64; ENTRIES], h: Header) -> usize
     requires { ⌜ Limits h ⌝ }
     ensures { λ r. ⌜ r ≡ heavy-row h (entry (now (g .entry))) ⌝ }
 {
@@ -240,15 +219,15 @@ pub fn heavy_row(g: &[i64; 256], h: Header) -> usize
 }
 
 // The number of the first row whose right-hand side is too large; 0 where none is.
-fn large_row(z: &[i64; 16], h: Header) -> usize
+fn large_row(z: &[i64; ROWS], h: Header) -> usize
     requires { ⌜ Limits h ⌝ }
     ensures { λ r. ⌜ r ≡ large-row h (at (now (z .entry))) ⌝ }
 {
-    first_large(z, h.n, half_unit(h.f))
+    first_large(z, h.n, integers::half_pow2(h.f))
 }
 
 // The number of the first row whose residual is above its bound; 0 where none is.
-pub fn large_residual(z: &[i64; 16], h: Header) -> usize
+pub fn large_residual(z: &[i64; ROWS], h: Header) -> usize
     requires { ⌜ Limits h ⌝ }
     ensures { λ r. ⌜ r ≡ large-residual h (at (now (z .entry))) ⌝ }
 {
@@ -257,8 +236,8 @@ pub fn large_residual(z: &[i64; 16], h: Header) -> usize
 
 // Refusals 8 and 9, with the row that is given, from the first heavy row and the first large right-hand side:
 // all weights come before any right-hand side.
-fn verdict_of(heavy: usize, large: usize) -> Verdict
-    ensures { λ r. ⌜ r ≡ verdict-of heavy large ⌝ }
+fn verdict_from(heavy: usize, large: usize) -> Verdict
+    ensures { λ r. ⌜ r ≡ verdict-from heavy large ⌝ }
 {
     if 0 < heavy {
         return Verdict {
@@ -276,9 +255,9 @@ fn verdict_of(heavy: usize, large: usize) -> Verdict
 }
 
 // Refusals 8 and 9 of a matrix and right-hand sides.
-pub fn verdict<'a>(g: &'a [i64; 256], z: &'a [i64; 16], h: Header) -> Verdict
+pub fn verdict<'a>(g: &'a [i64; ENTRIES], z: &'a [i64; ROWS], h: Header) -> Verdict
     requires { ⌜ Limits h ⌝ }
     ensures { λ r. ⌜ r ≡ system-verdict h (entry (now (g .entry))) (at (now (z .entry))) ⌝ }
 {
-    verdict_of(heavy_row(g, h), large_row(z, h))
+    verdict_from(heavy_row(g, h), large_row(z, h))
 }

@@ -1,5 +1,5 @@
--- Laws of text in a buffer: one piece after another, how long pieces are, and numbers put digit by digit. Cited by the proofs of this crate and by those
--- that put whole lines.
+-- Laws of text in a buffer: one piece after another, how long pieces are, and numbers put digit by digit.
+-- Cited by the proofs of this crate and by those that put whole lines.
 use mathlib.Core.Path.{_≡_, refl, sym, ap, _∙_}
 use mathlib.Core.Bool.{Bool, true, false, cond}
 use mathlib.Core.List.{List, [], _∷_, _++_, append-assoc, append-nil}
@@ -14,9 +14,9 @@ use lib.IntN.{ℤ, pos, negsuc, natAbs}
 use lib.ListN.{length, take, drop, set, getD, take-append-drop, length-append, drop-of-length-le}
 use lib.Seq.{append-snoc, set-split, length-take-le, drop-append-add, drop-drop, take-at, take-all, take-suc}
 use lib.Signed.{ltZ}
-use Rattle.integers.specs.Maximum.{le-or-lt}
-use Rattle.integers.specs.Order.{zarith}
-use Rattle.text.specs.Text.{digit-char, decimal-within, decimal, signed-decimal, with-text, Room, Put}
+use Rattle.integers.proofs.Maximum.{le-or-lt}
+use Rattle.integers.proofs.Order.{zarith}
+use Rattle.text.specs.Text.{digit-char, decimal-within, decimal, signed-decimal, with-text, HasRoom, Put}
 
 -- ---- text in a buffer
 
@@ -25,7 +25,7 @@ module _ (out : List ℕ) (at : ℕ) where
   unfolding with-text
   put-nothing = let e : at + 0 ≡ at = omega arith in record { holds = rw (e, append-nil (take at out), take-append-drop at out); ends = omega arith }
 
-  pub put-one : (b : ℕ) → Room out at (b ∷ []) → Put out at (b ∷ []) (set out at b) (at + 1)
+  pub put-one : (b : ℕ) → HasRoom out at (b ∷ []) → Put out at (b ∷ []) (set out at b) (at + 1)
   unfolding with-text
   put-one b h =
       record { holds = rw (add-one at) (set-split out at b (omega arith) ∙ sym (append-snoc (take at out) b (drop (suc at) out))); ends = refl }
@@ -116,7 +116,7 @@ length-signed (negsuc n) = omega (arith, length-decimal (suc n))
 
 module _ (out : List ℕ) (at n : ℕ) where
   -- of one digit
-  pub small-room : n < 10 → Room out at (decimal n) → at + 1 ≤ length out
+  pub small-room : n < 10 → HasRoom out at (decimal n) → at + 1 ≤ length out
   small-room h room = let e : length (decimal n) ≡ 1 = rw (decimal-small n h) in omega arith
 
   pub put-small : {after : List ℕ} {x end : ℕ} → n < 10 → x ≡ digit-char n → Put out at (x ∷ []) after end → Put out at (decimal n) after end
@@ -127,10 +127,10 @@ module _ (out : List ℕ) (at n : ℕ) where
     one-more : length (decimal n) ≡ length (decimal (n / 10)) + 1
     one-more = rw (decimal-large n h b) (length-append (decimal (n / 10)) (digit-char (n % 10) ∷ []))
 
-    pub front-room : Room out at (decimal n) → Room out at (decimal (n / 10))
+    pub front-room : HasRoom out at (decimal n) → HasRoom out at (decimal (n / 10))
     front-room room = omega (arith, one-more)
 
-    pub last-room : {mid : List ℕ} {m : ℕ} → Room out at (decimal n) → length mid ≡ length out
+    pub last-room : {mid : List ℕ} {m : ℕ} → HasRoom out at (decimal n) → length mid ≡ length out
         → Put out at (decimal (n / 10)) mid m → m + 1 ≤ length mid
     last-room room e p = omega (arith, one-more, p .ends)
 
@@ -152,18 +152,18 @@ signed-nonnegative (negsuc n) h = absurd (omega (zarith, h))
 
 module _ (out : List ℕ) (at : ℕ) (z : ℤ) (n : ℕ) (e : n ≡ natAbs z) where
   module _ (h : ltZ z (pos 0) ≡ true) where
-    pub sign-room : Room out at (signed-decimal z) → at + 1 ≤ length out
+    pub sign-room : HasRoom out at (signed-decimal z) → at + 1 ≤ length out
     sign-room room = omega (arith, ap length (signed-negative z h))
 
-    pub past-sign-room : {mid : List ℕ} {m : ℕ} → Room out at (signed-decimal z) → length mid ≡ length out
-        → Put out at (45 ∷ []) mid m → Room mid m (decimal n)
+    pub past-sign-room : {mid : List ℕ} {m : ℕ} → HasRoom out at (signed-decimal z) → length mid ≡ length out
+        → Put out at (45 ∷ []) mid m → HasRoom mid m (decimal n)
     past-sign-room room k p = rw e (omega (arith, ap length (signed-negative z h), p .ends))
 
     pub put-negative : {mid after : List ℕ} {m end : ℕ} → Put out at (45 ∷ []) mid m → Put mid m (decimal n) after end → Put out at (signed-decimal z) after end
     put-negative p q = rw (signed-negative z h, ← e) (put-then p q)
 
   module _ (h : ltZ z (pos 0) ≡ false) where
-    pub nonnegative-room : Room out at (signed-decimal z) → Room out at (decimal n)
+    pub nonnegative-room : HasRoom out at (signed-decimal z) → HasRoom out at (decimal n)
     nonnegative-room room = rw (e, ← signed-nonnegative z h) room
 
     pub put-nonnegative : {after : List ℕ} {end : ℕ} → Put out at (decimal n) after end → Put out at (signed-decimal z) after end
@@ -175,7 +175,7 @@ pub put-none : (out : List ℕ) (at : ℕ) (s : List ℕ) → Put out at (take 0
 put-none out at s = let e : at + 0 ≡ at = omega arith in rw e (put-nothing out at)
 
 module _ (out : List ℕ) (at : ℕ) (s mid : List ℕ) (i : ℕ) (p : Put out at (take i s) mid (at + i)) where
-  pub put-next : Room out at s → i < length s → length mid ≡ length out → Put out at (take (i + 1) s) (set mid (at + i) (getD s i 0)) (at + (i + 1))
+  pub put-next : HasRoom out at s → i < length s → length mid ≡ length out → Put out at (take (i + 1) s) (set mid (at + i) (getD s i 0)) (at + (i + 1))
   put-next room h e =
       let m : at + (i + 1) ≡ at + i + 1 = omega arith in
       rw (m, add-one i, take-suc s i 0 h) (put-then p (put-one mid (at + i) (getD s i 0) (omega arith)))

@@ -1,5 +1,5 @@
--- Text: numbers in decimal, and lines of items with one space between them and a newline at the end. Bytes are those of ASCII.
--- Cited by the contracts of this crate and by the printout of a frame.
+-- Text: numbers in decimal, and lines of items with one space between them and a newline at the end. Bytes
+-- are those of ASCII. Cited by the contracts of this crate and by the printout of a frame.
 use mathlib.Core.Path.{_≡_}
 use mathlib.Core.Bool.{cond}
 use mathlib.Core.List.{List, [], _∷_, _++_}
@@ -8,7 +8,7 @@ use lib.Dec.{ltb}
 use lib.IntN.{ℤ, pos, negsuc}
 use lib.ListN.{length, take, drop}
 
--- the character of a digit from 0 to 9
+-- the character of a digit from 0 to 9: that of 0 is 48
 abbrev pub digit-char : ℕ → ℕ
 digit-char d = 48 + d
 
@@ -21,12 +21,12 @@ decimal-within (suc k) n = cond (ltb n 10) (digit-char n ∷ []) (decimal-within
 abbrev pub decimal : ℕ → List ℕ
 decimal n = decimal-within 20 n
 
--- a negative number has a minus sign before it
+-- a negative number has a minus sign, 45, before it
 unfoldable pub signed-decimal : ℤ → List ℕ
 signed-decimal (pos n) = decimal n
 signed-decimal (negsuc n) = 45 ∷ decimal (suc n)
 
--- items after the first, each with a space before it, and the newline
+-- items after the first, each with a space, 32, before it, and the newline, 10
 unfoldable pub line-end : List (List ℕ) → List ℕ
 line-end [] = 10 ∷ []
 line-end (item ∷ items) = 32 ∷ item ++ line-end items
@@ -40,10 +40,11 @@ unfoldable pub with-text : List ℕ → ℕ → List ℕ → List ℕ
 with-text out at text = take at out ++ text ++ drop (at + length text) out
 
 -- the buffer has room for the text
-abbrev pub Room : List ℕ → ℕ → List ℕ → Type 0
-Room out at text = at + length text ≤ length out
+abbrev pub HasRoom : List ℕ → ℕ → List ℕ → Type 0
+HasRoom out at text = at + length text ≤ length out
 
--- what putting a text at `at` comes to: the buffer `out` holds it afterwards, as `after`, and `end` is the place past it
+-- what putting a text at `at` comes to: the buffer `out` holds it afterwards, as `after`, and `end` is the
+-- place past it
 pub record Put (out : List ℕ) (at : ℕ) (text after : List ℕ) (end : ℕ) : Type 0 where
   pub holds : after ≡ with-text out at text
   pub ends : end ≡ at + length text

@@ -1,11 +1,11 @@
--- Eight fields of 5 bits as eight bytes: the laws of `eight_bytes`, over plain numbers. Assumes nothing.
+-- Eight fields of 5 bits as eight bytes: the laws of `eight_bytes`, over numbers. Assumes nothing.
 use mathlib.Core.Path.{_≡_, refl, sym, ap, _∙_}
 use Prim.Native.Nat.{ℕ, zero, suc, _+_, _-_, _*_, _/_, _%_, _^_, _<_}
 use native.Mathlib.Nat.{div-one}
 use native.Mathlib.Omega.{arith}
 use lib.Bits.{bitAnd, and-block, and-high, and-le-r, and-mask}
 use lib.Pow.{shr-shr}
-use Rattle.trace.specs.Groups.{digit-byte, Bytewise}
+use Rattle.trace.specs.Inner.{digit-byte, Bytewise}
 
 -- ---- a mask over places of a fixed width
 

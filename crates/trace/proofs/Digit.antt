@@ -1,30 +1,25 @@
 -- One digit and its 5 bits, as the machine has them: the laws of `to_digit` and `to_bits`. Assumes nothing.
 use mathlib.Core.Path.{_≡_, refl, ap, _∙_}
 use mathlib.Core.Logic.{_⊎_, inl, inr}
-use Prim.Native.Nat.{ℕ, suc, _+_, _-_, _/_, _%_, _^_, _<_, _≤_}
+use Prim.Native.Nat.{ℕ, suc, _+_, _-_, _/_, _%_, _<_, _≤_}
 use native.Mathlib.Omega.{arith}
-use borrow.Author.Needs.{sfits-of}
 use borrow.Author.Tests.{le-ltb, lt-ltb}
 use lib.IntN.{ℤ, pos, negsuc, natAbs, _+ℤ_, _-ℤ_}
 use lib.Signed.{mag, _≤ℤ_}
-use mir.Facts.{toZ-ofZ}
 use mir.Syntax.{w8, w64}
 use mir.Val.{SFits, toZ, ofZ}
-use Rattle.integers.specs.Absolute.{Within}
-use Rattle.integers.specs.Machine.{known, machs, machine-eq, machine-fits}
-use Rattle.integers.specs.Maximum.{le-or-lt}
-use Rattle.integers.specs.Order.{parts→le}
+use Rattle.integers.specs.Within.{Within}
+use Rattle.integers.proofs.Machine.{known, machs, machine-eq, machine-fits, i8-kept}
+use Rattle.integers.proofs.Maximum.{le-or-lt}
+use Rattle.integers.proofs.Order.{parts→le}
 use Rattle.bitfields.specs.Twos as Twos
 use Rattle.bitfields.specs.Twos.{encode, decode}
-use Rattle.trace.specs.Groups.{digit-byte}
+use Rattle.trace.specs.Inner.{digit-byte}
 use Rattle.bitfields.proofs.Twos.{decode-fits, decode-low, decode-high}
 
 -- a digit that an array holds is what its bits stand for
-pub plain : (z : ℤ) → mag z < 2 ^ 7 → toZ w8 (ofZ w8 z) ≡ z
-plain z h = toZ-ofZ {w = w8} (sfits-of h)
-
-pub plain-digit : (z : ℤ) → Twos.Fits 5 z → toZ w8 (ofZ w8 z) ≡ z
-plain-digit z h = plain z (omega (arith, h .size))
+pub fit-digit-kept : (z : ℤ) → Twos.Fits 5 z → toZ w8 (ofZ w8 z) ≡ z
+fit-digit-kept z h = i8-kept z (omega (arith, h .size))
 
 -- ---- from a byte
 
@@ -66,11 +61,11 @@ module _ (u t : ℕ) (h : t < 32) (e : u ≡ digit-byte t) where
 -- ---- to 5 bits
 
 -- the number and 128, which is not negative
-abbrev pub raised : ℤ → ℕ
-raised (pos n) = n + 128
-raised (negsuc n) = 128 - suc n
+abbrev pub digit-raised : ℤ → ℕ
+digit-raised (pos n) = n + 128
+digit-raised (negsuc n) = 128 - suc n
 
-raised-is : (z : ℤ) → mag z < 128 → z +ℤ pos 128 ≡ pos (raised z)
+raised-is : (z : ℤ) → mag z < 128 → z +ℤ pos 128 ≡ pos (digit-raised z)
 raised-is (pos n) h = refl
 raised-is (negsuc n) h = rw (le-ltb 128 (suc n) (omega arith))
 
@@ -78,7 +73,7 @@ small : (z : ℤ) → mag z < 128 → natAbs z ≤ 128
 small (pos n) h = omega arith
 small (negsuc n) h = omega arith
 
-bits-are : (z : ℤ) → Twos.Fits 5 z → raised z % 32 ≡ encode 5 z
+bits-are : (z : ℤ) → Twos.Fits 5 z → digit-raised z % 32 ≡ encode 5 z
 unfolding encode
 bits-are (pos n) h = omega (arith, h .size)
 bits-are (negsuc n) h = omega (arith, h .size)
@@ -87,11 +82,11 @@ module _ (z x : ℤ) (h : mag z < 128) (e : x ≡ z) where
   pub raised-fits : SFits w64 (toZ w64 (ofZ w64 x) +ℤ pos 128)
   raised-fits = let m = known x z 128 e (small z h) in machine-fits (search machs depth 9) tt
 
-  raised-clean : toZ w64 (ofZ w64 (toZ w64 (ofZ w64 x) +ℤ pos 128)) ≡ pos (raised z)
+  raised-clean : toZ w64 (ofZ w64 (toZ w64 (ofZ w64 x) +ℤ pos 128)) ≡ pos (digit-raised z)
   raised-clean = let m = known x z 128 e (small z h) in machine-eq (search machs depth 9) tt (raised-is z h)
 
   pub raised-least : pos 0 ≤ℤ toZ w64 (ofZ w64 (toZ w64 (ofZ w64 x) +ℤ pos 128))
-  raised-least = rw raised-clean (parts→le (pos 0) (pos (raised z)) (omega arith))
+  raised-least = rw raised-clean (parts→le (pos 0) (pos (digit-raised z)) (omega arith))
 
-  pub last-bits : (u : ℕ) → u ≡ natAbs (toZ w64 (ofZ w64 (toZ w64 (ofZ w64 x) +ℤ pos 128))) → (u % 32 < 32) × (Twos.Fits 5 z → u % 32 ≡ encode 5 z)
-  last-bits u g = let f : u ≡ raised z = g ∙ ap natAbs raised-clean in (omega arith, λ k. rw f (bits-are z k))
+  pub digit-bits-are : (u : ℕ) → u ≡ natAbs (toZ w64 (ofZ w64 (toZ w64 (ofZ w64 x) +ℤ pos 128))) → (u % 32 < 32) × (Twos.Fits 5 z → u % 32 ≡ encode 5 z)
+  digit-bits-are u g = let f : u ≡ digit-raised z = g ∙ ap natAbs raised-clean in (omega arith, λ k. rw f (bits-are z k))

@@ -1,84 +1,94 @@
--- What is said of digits past row n and past step k, at work on document 01's case A: 9 is stored there, and from the
--- statements alone the trace is the same, and a record has 0 there.
+-- What is said of digits past row n and past step k, at work on document 01's case A: 9 is stored there, and
+-- from the statements alone the trace is the same, and a record has 0 there.
 use mathlib.Core.Path.{_≡_, refl, sym, ap, _∙_}
 use mathlib.Core.Bool.{true}
-use mathlib.Core.List.{List, [], _∷_}
+use mathlib.Core.List.{List, [], _∷_, _++_}
 use mathlib.Core.Logic.{inl, inr}
 use Prim.Native.Nat.{ℕ}
 use native.Mathlib.Omega.{arith}
-use lib.IntN.{pos}
+use lib.IntN.{pos, negsuc}
 use lib.ListN.{set, replicate}
 use lib.Seq.{getD-set-other}
 use Rattle.integers.specs.Flat.{entry, list-from}
-use Rattle.integers.specs.Product.{weight}
-use Rattle.integers.specs.Sum.{total}
-use Rattle.bitfields.specs.Layout.{bits, number, octets, pack, written}
-use Rattle.bitfields.specs.Twos.{encode}
-use Rattle.job.specs.Rows.{first-row-from}
-use Rattle.job.specs.System.{matrix, curve-entry, right-side}
+use Rattle.integers.specs.Sum.{weight, total}
+use Rattle.bitfields.specs.Layout.{bits, number, octets, pack, written, field, values-from}
+use Rattle.bitfields.specs.Twos.{encode, decode}
+use Rattle.system.specs.Rows.{first-row-from}
+use Rattle.system.specs.System.{matrix, curve-entry, right-side}
 use Rattle.job.specs.declared.Header.{Header}
-use Rattle.state.specs.Digits.{beyond}
-use Rattle.state.specs.Sound.{state-of}
-use Rattle.state.specs.State.{fresh, breaks-limit}
+use Rattle.state.specs.State.{beyond, fresh, breaks-limit}
+use Rattle.state.specs.Inner.{state-of}
 use Rattle.state.specs.declared.State.{State}
-use Rattle.state.proofs.Below.{overwritten, overwritten-below}
-use Rattle.trace.specs.CaseA.{case-A, trace-A, A-read}
+use Rattle.state.proofs.PastOrder.{overwritten, overwritten-below}
 use Rattle.trace.specs.PastOrder.{RecordZeros, ReadZeros, RecordBelow, SameMade, WriteBelow}
-use Rattle.trace.specs.Trace.{digit-list, digit-array, read-answer, state-record, record-answer, writer-checks, write-answer, write-buffer}
+use Rattle.trace.specs.Trace.{digit-list, digit-array, trace-reader-answer, state-record, record-answer, trace-writer-checks, trace-writer-answer, trace-writer-buffer, trace-checks, trace-record}
 use Rattle.trace.specs.declared.Record.{Record}
 use Rattle.trace.specs.declared.Recorded.{Recorded}
 use Rattle.trace.specs.declared.TraceWritten.{TraceWritten}
 use Rattle.trace.proofs.PastOrder.{record-zeros, read-zeros, record-below, write-below}
 
+-- ---- the record and the trace of case A after its 4 steps: row 1 has 0, 1, 1, -1, and row 2 has 1, 0, 0, 0
+
+unfoldable pub record-A : Record
+record-A =
+    record {
+      header = record { kind = 0; code = 0; p = 1; f = 4; n = 2; m = 4 };
+      k = 4;
+      digits = digit-array 2 4 (pos 0 ∷ pos 1 ∷ pos 1 ∷ pos 0 ∷ pos 1 ∷ pos 0 ∷ negsuc 0 ∷ pos 0 ∷ []);
+    }
+
+unfoldable pub trace-A : List ℕ
+trace-A = 0x01 ∷ 0x10 ∷ 0x44 ∷ 0x10 ∷ 0x01 ∷ 0x08 ∷ 0x02 ∷ 0x0f ∷ 0x80 ∷ []
+
 -- ---- the record of A with 9 in step 5 and in row 3
 
-abbrev pub spoilt-A : Record
-spoilt-A = record { header = case-A .header; k = case-A .k; digits = set (set (case-A .digits) 64 (pos 9)) 2 (pos 9) }
+abbrev pub spoilt-record-A : Record
+spoilt-record-A = record { header = record-A .header; k = record-A .k; digits = set (set (record-A .digits) 64 (pos 9)) 2 (pos 9) }
 
-same-A : SameMade case-A spoilt-A
-unfolding case-A
+same-A : SameMade record-A spoilt-record-A
+unfolding record-A
 same-A =
     record {
       header = refl;
       steps = refl;
       digits = λ j i l m.
-          sym (getD-set-other (set (case-A .digits) 64 (pos 9)) 2 _ (pos 9) (pos 0) (λ e. omega arith) ∙ getD-set-other (case-A .digits) 64 _ (pos 9) (pos 0) (λ e. omega arith));
+          sym (getD-set-other (set (record-A .digits) 64 (pos 9)) 2 _ (pos 9) (pos 0) (λ e. omega arith) ∙ getD-set-other (record-A .digits) 64 _ (pos 9) (pos 0) (λ e. omega arith));
     }
 
 abbrev room-A : List ℕ
 room-A = replicate 10 255
 
-written-A : (write-answer case-A 10 .length ≡ 9) × (write-buffer case-A room-A ≡ 1 ∷ 16 ∷ 68 ∷ 16 ∷ 1 ∷ 8 ∷ 2 ∷ 15 ∷ 128 ∷ 255 ∷ [])
-unfolding case-A bits number octets pack encode digit-list digit-array list-from first-row-from beyond writer-checks write-answer write-buffer written
+written-A : (trace-writer-answer record-A 10 .length ≡ 9) × (trace-writer-buffer record-A room-A ≡ trace-A ++ (255 ∷ []))
+unfolding record-A trace-A bits number octets pack encode digit-list digit-array list-from first-row-from beyond trace-writer-checks trace-writer-answer trace-writer-buffer written
 written-A = (refl, refl)
 
 module _ (below : WriteBelow) where
   -- it has the nine bytes of A's trace, and the tenth stays
-  spoilt-written : (write-answer spoilt-A 10 .length ≡ 9) × (write-buffer spoilt-A room-A ≡ 1 ∷ 16 ∷ 68 ∷ 16 ∷ 1 ∷ 8 ∷ 2 ∷ 15 ∷ 128 ∷ 255 ∷ [])
+  spoilt-written : (trace-writer-answer spoilt-record-A 10 .length ≡ 9) × (trace-writer-buffer spoilt-record-A room-A ≡ trace-A ++ (255 ∷ []))
   spoilt-written =
-      let x = below case-A spoilt-A same-A in
+      let x = below record-A spoilt-record-A same-A in
       (sym (ap (λ (w : TraceWritten). w .length) (x .answer 10)) ∙ written-A .0, sym (x .buffer room-A) ∙ written-A .1)
 
 -- ---- the job of A after a step in which row 2 has the digit 1, and the same with 9 in row 3
 
-unfoldable pub job-A : State
-job-A =
+unfoldable pub recorded-job-A : State
+recorded-job-A =
     let h : Header = record { kind = 0; code = 0; p = 1; f = 4; n = 2; m = 4 } in
     let s = fresh h (pos 4 ∷ pos 3 ∷ pos 8 ∷ []) in
     state-of true h 1 (s .g) (s .z) (set (replicate 960 (pos 0)) 1 (pos 1))
 
 abbrev pub other-A : State
-other-A = overwritten job-A 2 0 0 (pos 9)
+other-A = overwritten recorded-job-A 2 0 0 (pos 9)
 
-recorded-A : (record-answer job-A .refusal ≡ 0) × (entry (record-answer job-A .trace .digits) 0 1 ≡ pos 1)
-    × (record-answer job-A .trace .header .n ≡ 2)
-unfolding job-A fresh record-answer state-record digit-list digit-array breaks-limit beyond first-row-from weight total list-from matrix curve-entry right-side
+recorded-A : (record-answer recorded-job-A .refusal ≡ 0) × (entry (record-answer recorded-job-A .trace .digits) 0 1 ≡ pos 1)
+    × (record-answer recorded-job-A .trace .header .n ≡ 2)
+unfolding recorded-job-A fresh record-answer state-record digit-list digit-array breaks-limit beyond first-row-from weight total list-from matrix curve-entry right-side
 recorded-A = (refl, refl, refl)
 
 module _ (below : RecordBelow) where
-  same-record : record-answer job-A ≡ record-answer other-A
-  unfolding job-A fresh
-  same-record = below job-A other-A (overwritten-below job-A 2 0 0 (pos 9) (omega arith) (omega arith) (omega arith))
+  same-record : record-answer recorded-job-A ≡ record-answer other-A
+  unfolding recorded-job-A fresh
+  same-record = below recorded-job-A other-A (overwritten-below recorded-job-A 2 0 0 (pos 9) (omega arith) (omega arith) (omega arith))
 
   -- its record is taken, and has that digit
   other-recorded : (record-answer other-A .refusal ≡ 0) × (entry (record-answer other-A .trace .digits) 0 1 ≡ pos 1)
@@ -91,14 +101,14 @@ module _ (below : RecordBelow) where
       zeros other-A .digits 0 2 (omega arith) (omega arith) (inr (omega (arith, recorded-A .2, ap (λ (r : Recorded). r .trace .header .n) same-record)))
 
 -- the record of A's trace, which has four steps, has 0 in step 5
-steps-A : read-answer trace-A .trace .k ≡ 4
-unfolding case-A
-steps-A = ap (λ (r : Recorded). r .trace .k) A-read
+steps-A : trace-reader-answer trace-A .trace .k ≡ 4
+unfolding trace-A bits number field values-from decode digit-array list-from first-row-from beyond trace-checks trace-record trace-reader-answer
+steps-A = refl
 
-read-zero : ReadZeros → entry (read-answer trace-A .trace .digits) 4 0 ≡ pos 0
+read-zero : ReadZeros → entry (trace-reader-answer trace-A .trace .digits) 4 0 ≡ pos 0
 read-zero zeros = zeros trace-A .digits 4 0 (omega arith) (omega arith) (inl (omega (arith, steps-A)))
 
 -- the statements are proved
-pub past-order-A : (write-answer spoilt-A 10 .length ≡ 9) × (record-answer other-A .refusal ≡ 0) × (entry (record-answer other-A .trace .digits) 0 2 ≡ pos 0)
-    × (entry (read-answer trace-A .trace .digits) 4 0 ≡ pos 0)
-past-order-A = (spoilt-written write-below .0, other-recorded record-below .0, other-zero record-below record-zeros, read-zero read-zeros)
+pub trace-past-order-A : (trace-writer-answer spoilt-record-A 10 .length ≡ 9) × (record-answer other-A .refusal ≡ 0) × (entry (record-answer other-A .trace .digits) 0 2 ≡ pos 0)
+    × (entry (trace-reader-answer trace-A .trace .digits) 4 0 ≡ pos 0)
+trace-past-order-A = (spoilt-written write-below .0, other-recorded record-below .0, other-zero record-below record-zeros, read-zero read-zeros)

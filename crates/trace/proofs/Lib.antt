@@ -1,8 +1,16 @@
+pub mod Digits
+pub mod Part
+pub mod Valid
+pub mod RoundTrip
+pub mod Theorems
 pub mod Digit
 pub mod Bytes
+pub mod Storing
+pub mod Groups
 pub mod Steps
 pub mod Reading
 pub mod Writing
+pub mod WriterRefusals
 pub mod Recording
 pub mod PastOrder
 pub mod ExamplePastOrder

@@ -12,15 +12,17 @@ use lib.Dec.{eqb}
 use lib.IntN.{ℤ, pos}
 use lib.ListN.{length, getD-replicate}
 use Rattle.integers.specs.Flat.{entry}
-use Rattle.integers.specs.Maximum.{le-or-lt}
+use Rattle.integers.proofs.Maximum.{le-or-lt}
 use Rattle.state.specs.declared.State.{State}
 use Rattle.state.specs.PastOrder.{SameBelow}
-use Rattle.state.proofs.Below.{checked-alike, beyond-ext, list-from-alike}
+use Rattle.state.proofs.PastOrder.{checked-alike, beyond-ext}
+use Rattle.state.proofs.Lists.{list-from-alike}
 use Rattle.job.specs.Refusal.{first-refusal}
-use Rattle.trace.specs.Trace.{digit-list, digit-beyond, zero-record, trace-record, read-answer, trace-refusal, state-refusal, state-record, record-answer, writer-checks, writer-refusal, record-fields, write-answer, write-buffer}
-use Rattle.trace.specs.Digits.{entry-none}
+use Rattle.trace.specs.Trace.{digit-list, zero-record, trace-record, trace-reader-answer, trace-refusal, record-refusal, state-record, record-answer, trace-writer-checks, trace-writer-refusal, record-fields, trace-writer-answer, trace-writer-buffer}
+use Rattle.state.specs.State.{digit-beyond}
+use Rattle.trace.proofs.Digits.{entry-none}
 use Rattle.trace.specs.PastOrder.{RecordZeroPast, RecordZeros, ReadZeros, RecordBelow, SameMade, WriteBelow}
-use Rattle.trace.specs.Valid.{recorded-valid, steps-most}
+use Rattle.trace.proofs.Valid.{recorded-valid, record-steps-most}
 use Rattle.trace.specs.declared.Record.{Record}
 use Rattle.trace.specs.declared.Recorded.{Recorded}
 
@@ -38,10 +40,10 @@ chosen-past (suc c) t p = rw (ne-eqb (suc c) 0 (λ e. omega arith)) zeros-past
 pub record-zeros : RecordZeros
 unfolding record-answer state-record
 record-zeros s =
-    chosen-past (state-refusal s) (state-record s) (record { digits = λ j i m l o. entry-none (s .header .n) (s .k) _ j i m l o })
+    chosen-past (record-refusal s) (state-record s) (record { digits = λ j i m l o. entry-none (s .header .n) (s .k) _ j i m l o })
 
 pub read-zeros : ReadZeros
-unfolding read-answer trace-record
+unfolding trace-reader-answer trace-record
 read-zeros bytes =
     chosen-past (trace-refusal bytes) (trace-record bytes)
     (record { digits = λ j i m l o. entry-none (trace-record bytes .header .n) (trace-record bytes .k) _ j i m l o })
@@ -61,16 +63,16 @@ module _ (n k : ℕ) (ds es : List ℤ) (h : (j i : ℕ) → j < k → i < n →
 -- ---- the record of a state
 
 module _ {s t : State} (e : SameBelow s t) where
-  refused-alike : state-refusal s ≡ state-refusal t
+  refused-alike : record-refusal s ≡ record-refusal t
   refused-alike = ap first-refusal (checked-alike e)
 
-  record-alike : state-refusal s ≡ 0 → state-record s ≡ state-record t
+  record-alike : record-refusal s ≡ 0 → state-record s ≡ state-record t
   unfolding state-record
   record-alike z =
       rw (
         ← e .header,
         ← e .steps,
-        list-alike (s .header .n) (s .k) (s .digits) (t .digits) (λ j i l m. e .digits j i (omega (arith, steps-most (recorded-valid s z))) m),
+        list-alike (s .header .n) (s .k) (s .digits) (t .digits) (λ j i l m. e .digits j i (omega (arith, record-steps-most (recorded-valid s z))) m),
       )
 
 -- one refusal number, and with none of them one record
@@ -81,7 +83,7 @@ one-answer (suc c) d x y e f = rw (← e, ne-eqb (suc c) 0 (λ z. omega arith))
 
 pub record-below : RecordBelow
 unfolding record-answer
-record-below s t e = one-answer (state-refusal s) (state-refusal t) (state-record s) (state-record t) (refused-alike e) (record-alike e)
+record-below s t e = one-answer (record-refusal s) (record-refusal t) (state-record s) (state-record t) (refused-alike e) (record-alike e)
 
 -- ---- the trace writer
 
@@ -91,19 +93,19 @@ module _ {t w : Record} (e : SameMade t w) where
       rw (← e .header, ← e .steps)
       (beyond-ext (t .header .n) (t .header .p) (t .digits) (w .digits) 0 (t .k) (λ j i g l m. e .digits j i (omega arith) m))
 
-  writer-alike : (room : ℕ) → writer-refusal t room ≡ writer-refusal w room
-  unfolding writer-checks
+  writer-alike : (room : ℕ) → trace-writer-refusal t room ≡ trace-writer-refusal w room
+  unfolding trace-writer-checks
   writer-alike room = rw (beyond-alike, e .header, e .steps)
 
   fields-alike : record-fields t ≡ record-fields w
   fields-alike = rw (← e .header, ← e .steps, list-alike (t .header .n) (t .k) (t .digits) (w .digits) (e .digits))
 
-  answer-alike : (room : ℕ) → write-answer t room ≡ write-answer w room
-  unfolding write-answer
+  answer-alike : (room : ℕ) → trace-writer-answer t room ≡ trace-writer-answer w room
+  unfolding trace-writer-answer
   answer-alike room = rw (writer-alike room, e .header, e .steps)
 
-  buffer-alike : (out : List ℕ) → write-buffer t out ≡ write-buffer w out
-  unfolding write-buffer
+  buffer-alike : (out : List ℕ) → trace-writer-buffer t out ≡ trace-writer-buffer w out
+  unfolding trace-writer-buffer
   buffer-alike out = rw (writer-alike (length out), fields-alike)
 
 pub write-below : WriteBelow

@@ -15,21 +15,22 @@ use Rattle.job.specs.Header.{trace-read-checks}
 use Rattle.job.specs.Limits.{Limits}
 use Rattle.job.proofs.Limits.{trace-small}
 use Rattle.job.specs.Refusal.{first-refusal, None, none, also}
-use Rattle.job.proofs.Refusal.{accepted-before, accepted-exactly, refused-before}
+use Rattle.job.proofs.Refusal.{accepted-before, accepted-exactly, refused-before, equal}
 use Rattle.job.specs.declared.Header.{Header}
 use Rattle.job.specs.Rules.{trace-steps}
-use Rattle.frame.specs.Frame.{header-of}
-use Rattle.frame.specs.Valid.{header-is}
-use Rattle.trace.specs.Trace.{digit-beyond, wrong-length, fill-bit-set, trace-digits, steps-of, trace-checks, read-answer}
-use Rattle.trace.specs.Part.{record-of, part-bits, part-steps, part-digits, part-wrong-length, part-fill-bit-set, size-checks, rest-checks, rest-answer, refused-by, part-answer, part-whole}
-use Rattle.trace.specs.Valid.{equal}
+use Rattle.header.specs.Header.{header-of}
+use Rattle.state.specs.State.{digit-beyond}
+use Rattle.trace.specs.Trace.{trace-wrong-length, trace-fill-bit-set, trace-digits, steps-of, trace-checks, trace-reader-answer, record-of}
+use Rattle.trace.specs.Inner.{part-bits, part-steps, part-digits, part-wrong-length, part-fill-bit-set, size-checks, rest-checks, rest-answer, no-record, part-answer}
+use Rattle.trace.proofs.Part.{part-whole}
 use Rattle.trace.specs.declared.Recorded.{Recorded}
-use Rattle.trace.proofs.Steps.{place-small}
+use Rattle.trace.proofs.Steps.{digit-count}
+use Rattle.trace.proofs.Valid.{trace-header-is}
 
 -- ---- sizes
 
 pub digits-most : {h : Header} {k : ℕ} → Limits h → k ≤ trace-steps h → h .n * k ≤ 960
-digits-most {h} {k} l g = place-small (h .n) k (l .order-most) (omega (arith, trace-small h l))
+digits-most {h} {k} l g = digit-count (h .n) k (l .order-most) (omega (arith, trace-small h l))
 
 -- of any number of 6 bits
 pub digits-few : {h : Header} {k : ℕ} → Limits h → k < 64 → h .n * k ≤ 1008
@@ -64,7 +65,7 @@ module _ (h : Header) (k : ℕ) (b : List ℕ) where
 -- ---- and 11
 
 module _ (h : Header) (k c : ℕ) (x y : Bool) (ds : List ℤ) (r : c ≡ first-refusal (size-checks h k x y)) where
-  rest-refused : 0 < c → refused-by c ≡ rest-answer h k x y ds
+  rest-refused : 0 < c → no-record c ≡ rest-answer h k x y ds
   unfolding rest-answer
   rest-refused z =
       let f : first-refusal (rest-checks h k x y ds) ≡ c = refused-before (size-checks h k x y) ((11, digit-beyond h k ds) ∷ []) c z (sym r) in
@@ -73,7 +74,7 @@ module _ (h : Header) (k c : ℕ) (x y : Bool) (ds : List ℤ) (r : c ≡ first-
   rest-last : c ≤ 0 → first-refusal (rest-checks h k x y ds) ≡ first-refusal ((11, digit-beyond h k ds) ∷ [])
   rest-last z = accepted-before (size-checks h k x y) ((11, digit-beyond h k ds) ∷ []) tt (omega arith)
 
-  rest-beyond : c ≤ 0 → digit-beyond h k ds ≡ true → refused-by 11 ≡ rest-answer h k x y ds
+  rest-beyond : c ≤ 0 → digit-beyond h k ds ≡ true → no-record 11 ≡ rest-answer h k x y ds
   unfolding rest-answer
   rest-beyond z e = rw (rest-last z, e)
 
@@ -85,11 +86,11 @@ module _ (h : Header) (b : List ℕ) (k c : ℕ) (e : k ≡ part-steps b) (r : c
   abbrev answer : ℕ → Recorded
   answer k = rest-answer h k (part-wrong-length h k b) (part-fill-bit-set h k b) (part-digits h k b)
 
-  pub part-refused : 0 < c → refused-by c ≡ part-answer h b
+  pub part-refused : 0 < c → no-record c ≡ part-answer h b
   part-refused z = rest-refused h k c _ _ _ r z ∙ ap answer e
 
   module _ (ds : List ℤ) (t : Bool) (z : c ≤ 0) (d : ds ≡ part-digits h k b) (f : t ≡ digit-beyond h k ds) where
-    pub part-beyond : t ≡ true → refused-by 11 ≡ part-answer h b
+    pub part-beyond : t ≡ true → no-record 11 ≡ part-answer h b
     part-beyond g = rest-beyond h k c _ _ _ r z (rw d at (sym f ∙ g)) ∙ ap answer e
 
     pub part-read : t ≡ false → _≡_ {A = Recorded} (record { refusal = 0; trace = record-of h k ds }) (part-answer h b)
@@ -97,25 +98,25 @@ module _ (h : Header) (b : List ℕ) (k c : ℕ) (e : k ≡ part-steps b) (r : c
 
 -- ---- 1 to 5
 
-pub read-short : (s : List ℕ) → length s < 4 → refused-by 1 ≡ read-answer s
-unfolding read-answer trace-checks
-read-short s l = rw (lt-ltb (length s) 4 l)
+pub trace-read-short : (s : List ℕ) → length s < 4 → no-record 1 ≡ trace-reader-answer s
+unfolding trace-reader-answer trace-checks
+trace-read-short s l = rw (lt-ltb (length s) 4 l)
 
 module _ (s : List ℕ) (h : Header) (c : ℕ) (l : 4 ≤ length s) (e : h ≡ header-of s) (r : c ≡ first-refusal (trace-read-checks h)) where
-  pub read-header : 0 < c → refused-by c ≡ read-answer s
-  unfolding read-answer trace-checks
+  pub read-header : 0 < c → no-record c ≡ trace-reader-answer s
+  unfolding trace-reader-answer trace-checks
   read-header z =
       let g = header-of s in
-      let rest = rest-checks g (steps-of s) (wrong-length s) (fill-bit-set s) (trace-digits s) in
+      let rest = rest-checks g (steps-of s) (trace-wrong-length s) (trace-fill-bit-set s) (trace-digits s) in
       rw (le-ltb (length s) 4 l, refused-before (trace-read-checks g) rest c z (rw e at (sym r)), ne-eqb c 0 (λ e. omega arith))
 
   pub read-limited : c ≤ 0 → Limits h
   read-limited z =
       let y : first-refusal (trace-read-checks h) ≡ 0 = omega arith in
-      rw (← e) at (header-is s .0 (rw e at y))
+      rw (← e) at (trace-header-is s .0 (rw e at y))
 
   -- a part to the end is what is left of the list
-  pub read-rest : (a : Recorded) → c ≤ 0 → a ≡ part-answer h (take (length s - 3) (drop 3 s)) → a ≡ read-answer s
+  pub read-rest : (a : Recorded) → c ≤ 0 → a ≡ part-answer h (take (length s - 3) (drop 3 s)) → a ≡ trace-reader-answer s
   read-rest a z f =
       let y : first-refusal (trace-read-checks h) ≡ 0 = omega arith in
       f ∙ rw (take-all (length s - 3) (drop 3 s) (rw length-drop (omega arith))) (ap (λ (g : Header). part-answer g (drop 3 s)) e ∙ part-whole s l (rw e at y))

@@ -1,39 +1,30 @@
--- The laws of the trace writer, over the code's variables: digits put several at a time, the header and the steps, and the refusals. Assumes nothing.
+-- Digits put in order and written several at a time, after the header and the steps made, over the code's
+-- variables. Assumes nothing.
 use mathlib.Core.Path.{_≡_, refl, sym, ap, _∙_}
-use mathlib.Core.Bool.{Bool, true, false}
 use mathlib.Core.List.{List, [], _∷_, _++_, map, map-append, append-assoc, append-nil}
 use mathlib.Core.Logic.{inl}
 use Prim.Native.Nat.{ℕ, zero, suc, _+_, _*_, _/_, _%_, _^_, _<_, _≤_}
 use native.Mathlib.Nat.{mul-le-mul, mul-suc, mul-zero}
 use native.Mathlib.Numerals.{add-one}
 use native.Mathlib.Omega.{arith}
-use borrow.Author.Tests.{le-ltb, lt-ltb, ne-eqb}
 use lib.IntN.{ℤ}
 use lib.ListN.{length, length-map}
 use lib.Seq.{length-sets, sets}
-use Rattle.integers.specs.Flat.{at, list-from, length-list-from, getD-list-from}
+use Rattle.integers.specs.Flat.{at, list-from}
+use Rattle.integers.proofs.Flat.{length-list-from, getD-list-from}
 use Rattle.bitfields.specs.Layout.{Field, bits, number, Fit, more, Bytes, put, written}
 use Rattle.bitfields.specs.Twos.{encode, AllFit}
 use Rattle.bitfields.proofs.Spelling.{bits-each, bits-append, bits-one, fit-append, number-append, number-lt, number-one}
-use Rattle.bitfields.proofs.Writing.{put-one, put-written, put-zero}
+use Rattle.bitfields.proofs.Writing.{put-joined, put-written, put-zero}
 use Rattle.bitfields.proofs.Twos.{fit-encodes}
-use Rattle.job.specs.Header.{trace-header-checks}
 use Rattle.job.specs.Limits.{Limits}
-use Rattle.job.proofs.Limits.{trace-limits}
-use Rattle.job.specs.Refusal.{Check, first-refusal}
-use Rattle.job.proofs.Refusal.{accepted-before, refused-before}
 use Rattle.job.specs.declared.Header.{Header}
-use Rattle.job.specs.Rules.{trace-steps}
-use Rattle.frame.specs.Frame.{header-fields}
-use Rattle.frame.specs.RoundTrip.{fit-header}
-use Rattle.trace.specs.Trace.{digit-list, trace-fields, trace-length, too-many-steps, digit-beyond, buffer-too-short, writer-checks, writer-refusal, write-answer, write-buffer}
-use Rattle.trace.specs.Groups.{digits-from, digit-fields, FiveBits, Appended}
-use Rattle.trace.specs.Part.{record-of}
-use Rattle.trace.specs.Digits.{at-sets, at-sets-other, digit-list-more, digit-list-none, list-from-ext}
-use Rattle.trace.specs.Valid.{Valid, taken-is}
-use Rattle.trace.specs.declared.Record.{Record}
-use Rattle.trace.specs.declared.TraceWritten.{TraceWritten}
-use Rattle.trace.proofs.Steps.{digits-more, front-fits}
+use Rattle.header.specs.Header.{header-fields}
+use Rattle.header.proofs.Header.{fit-header}
+use Rattle.trace.specs.Trace.{digit-list, trace-fields}
+use Rattle.trace.specs.Inner.{digits-from, digit-fields, DigitsFit, Appended}
+use Rattle.trace.proofs.Digits.{at-sets, at-sets-other, digit-list-more, digit-list-none, list-from-ext}
+use Rattle.trace.proofs.Groups.{digits-more, front-fits}
 
 -- ---- fields after fields
 
@@ -43,7 +34,7 @@ appended-none m a = record { more = λ s fs k h e d. d ∙ ap (written s) (sym (
 -- fields that are put as one field
 appended-one : (m : ℕ) (gs : List Field) (a b : List ℕ) (w v : ℕ) → w ≡ bits gs → v ≡ number gs → b ≡ put a m ((w, v) ∷ []) → Appended m gs a b
 appended-one m gs a b w v e d f = record {
-  more = λ s fs k h q p. f ∙ rw (e, d, put-one a m gs, p, ← q) (put-written gs k h);
+  more = λ s fs k h q p. f ∙ rw (e, d, put-joined a m gs, p, ← q) (put-written gs k h);
 }
 
 appended-more : {m : ℕ} {gs hs : List Field} {a b c : List ℕ} → Fit gs → Appended m gs a b → Appended (m + bits gs) hs b c → Appended m (gs ++ hs) a c
@@ -82,19 +73,19 @@ digits-same ds es i j c h =
     list-from-ext 0 c (λ x. at ds (i + x)) (digits-from es j c) (length-list-from 0 c (λ x. at es (j + x)))
     (λ t l. let o : 0 + t ≡ t = omega arith in rw o (h t l ∙ sym (getD-list-from 0 c (λ x. at es (j + x)) t l ∙ rw o)))
 
-pub pull-start : (n : ℕ) (ds es : List ℤ) → digits-from es 0 (n * 0) ≡ digit-list n 0 ds
-pull-start n ds es = rw (digit-list-none n ds, mul-zero) (digits-none es 0)
+pub in-order-start : (n : ℕ) (ds es : List ℤ) → digits-from es 0 (n * 0) ≡ digit-list n 0 ds
+in-order-start n ds es = rw (digit-list-none n ds, mul-zero) (digits-none es 0)
 
-pub pull-room : (n j : ℕ) → n ≤ 16 → j < 60 → n * j + 16 ≤ 960
-pull-room n j a l = omega (arith, mul-le-mul {n₁ = n} {m₁ = j} {n₂ = 16} {m₂ = 59} a (omega arith))
+pub in-order-room : (n j : ℕ) → n ≤ 16 → j < 60 → n * j + 16 ≤ 960
+in-order-room n j a l = omega (arith, mul-le-mul {n₁ = n} {m₁ = j} {n₂ = 16} {m₂ = 59} a (omega arith))
 
-pub pull-length : (e f : List ℤ) (to : ℕ) (vs : List ℤ) → f ≡ sets e to vs → length e ≡ 960 → length f ≡ 960
-pull-length e f to vs q l = ap length q ∙ length-sets e to vs ∙ l
+pub in-order-length : (e f : List ℤ) (to : ℕ) (vs : List ℤ) → f ≡ sets e to vs → length e ≡ 960 → length f ≡ 960
+in-order-length e f to vs q l = ap length q ∙ length-sets e to vs ∙ l
 
 -- a turn: one more step's, of which n stay
-pub pull-turn : (ds e f : List ℤ) (n j to : ℕ) → 0 < n → n ≤ 16 → n * j + 16 ≤ length e → to ≡ n * j
+pub in-order-turn : (ds e f : List ℤ) (n j to : ℕ) → 0 < n → n ≤ 16 → n * j + 16 ≤ length e → to ≡ n * j
     → digits-from e 0 (n * j) ≡ digit-list n j ds → f ≡ sets e to (digits-from ds (16 * j) 16) → digits-from f 0 (n * (j + 1)) ≡ digit-list n (j + 1) ds
-pull-turn ds e f n j to p a r t g q =
+in-order-turn ds e f n j to p a r t g q =
     let s : n * (j + 1) ≡ n * j + n = omega (arith, mul-suc n j) in
     let o : 0 + n * j ≡ n * j = omega arith in
     let vs = digits-from ds (16 * j) 16 in
@@ -108,14 +99,14 @@ pull-turn ds e f n j to p a r t g q =
 
 -- ---- a list of digits, eight at a time
 
-pub fits-inside : {ds : List ℤ} {m : ℕ} → FiveBits ds 0 m → (i c : ℕ) → i + c ≤ m → FiveBits ds i c
+pub fits-inside : {ds : List ℤ} {m : ℕ} → DigitsFit ds 0 m → (i c : ℕ) → i + c ≤ m → DigitsFit ds i c
 fits-inside a i c l = record { each-fits = λ x h. let e : 0 + (i + x) ≡ i + x = omega arith in rw e at (a .each-fits (i + x) (omega arith)) }
 
 pub list-start : (ds : List ℤ) (a : List ℕ) → Appended 30 (digit-fields (digits-from ds 0 (8 * 0))) a a
 list-start ds a = rw (digits-none ds 0) (appended-none 30 a)
 
 -- c digits after the first m, as one field
-pub list-put : (ds : List ℤ) (o a b : List ℕ) (m c p v : ℕ) → FiveBits ds 0 m → p ≡ 30 + 5 * m → Appended 30 (digit-fields (digits-from ds 0 m)) o a
+pub list-put : (ds : List ℤ) (o a b : List ℕ) (m c p v : ℕ) → DigitsFit ds 0 m → p ≡ 30 + 5 * m → Appended 30 (digit-fields (digits-from ds 0 m)) o a
     → v ≡ number (digit-fields (digits-from ds m c)) → b ≡ put a p ((5 * c, v) ∷ []) → Appended 30 (digit-fields (digits-from ds 0 (m + c))) o b
 list-put ds o a b m c p v h e f g d =
     let z : 0 + m ≡ m = omega arith in
@@ -127,14 +118,14 @@ list-put ds o a b m c p v h e f g d =
     rw s (appended-more (fit-encodes {w = 5} (omega arith) (front-fits h m (omega arith))) f (rw w n))
 
 -- a turn: eight more
-pub eights-turn : (ds : List ℤ) (o a b : List ℕ) (g i q v : ℕ) → FiveBits ds 0 (8 * g) → i < g → q ≡ 3 + 5 * i → Appended 30 (digit-fields (digits-from ds 0 (8 * i))) o a
+pub eights-turn : (ds : List ℤ) (o a b : List ℕ) (g i q v : ℕ) → DigitsFit ds 0 (8 * g) → i < g → q ≡ 3 + 5 * i → Appended 30 (digit-fields (digits-from ds 0 (8 * i))) o a
     → v ≡ number (digit-fields (digits-from ds (8 * i) 8)) → b ≡ put a (8 * q + 6) ((40, v) ∷ []) → Appended 30 (digit-fields (digits-from ds 0 (8 * (i + 1)))) o b
 eights-turn ds o a b g i q v h l e f c d =
     let s : 8 * (i + 1) ≡ 8 * i + 8 = omega arith in
     rw s (list-put ds o a b (8 * i) 8 (8 * q + 6) v (fits-inside h 0 (8 * i) (omega arith)) (omega arith) f c d)
 
 -- what is left, and where nothing is
-pub rest-put : (ds : List ℤ) (o a b : List ℕ) (m v : ℕ) → FiveBits ds 0 m → Appended 30 (digit-fields (digits-from ds 0 (8 * (m / 8)))) o a
+pub rest-put : (ds : List ℤ) (o a b : List ℕ) (m v : ℕ) → DigitsFit ds 0 m → Appended 30 (digit-fields (digits-from ds 0 (8 * (m / 8)))) o a
     → v ≡ number (digit-fields (digits-from ds (8 * (m / 8)) (m % 8))) → b ≡ put a (30 + 40 * (m / 8)) ((5 * (m % 8), v) ∷ [])
     → Appended 30 (digit-fields (digits-from ds 0 m)) o b
 rest-put ds o a b m v h f c d =
@@ -146,7 +137,7 @@ pub rest-none : (ds : List ℤ) (o a : List ℕ) (m : ℕ) → m % 8 ≤ 0 → A
 rest-none ds o a m l f = let s : 8 * (m / 8) ≡ m = omega arith in rw s at f
 
 -- digits that are those of k steps
-pub list-five : (es v : List ℤ) (m : ℕ) → digits-from es 0 m ≡ v → AllFit 5 v → FiveBits es 0 m
+pub list-five : (es v : List ℤ) (m : ℕ) → digits-from es 0 m ≡ v → AllFit 5 v → DigitsFit es 0 m
 list-five es v m e f = record {
   each-fits = λ x h.
       let o : 0 + x ≡ x = omega arith in
@@ -165,56 +156,8 @@ pub trace-put : (h : Header) (k : ℕ) (ds : List ℤ) (o a b : List ℕ) (x : �
 unfolding bits
 trace-put h k ds o a b x m f e d g =
     let fs = header-fields h ++ ((6, k) ∷ []) in
-    g .more o fs m f refl (d ∙ rw (e, ← head-number h k) (put-one o 0 fs ∙ put-zero o fs))
+    g .more o fs m f refl (d ∙ rw (e, ← head-number h k) (put-joined o 0 fs ∙ put-zero o fs))
 
 pub head-small : {h : Header} (x : ℕ) → Limits h → x ≡ number (header-fields h) → x < 2 ^ 24
 unfolding bits
 head-small x l e = rw e (number-lt (fit-header l))
-
--- ---- the refusals: 2, 14, 3, 4, 5, 10, 11, 23
-
-module _ (h : Header) (k : ℕ) (ds : List ℤ) (room c : ℕ) (r : c ≡ first-refusal (trace-header-checks h)) where
-  abbrev rest : List Check
-  rest = (10, too-many-steps h k) ∷ (11, digit-beyond h k ds) ∷ (23, buffer-too-short (record-of h k ds) room) ∷ []
-
-  pub refused-header : 0 < c → c ≡ first-refusal (writer-checks (record-of h k ds) room)
-  unfolding writer-checks
-  refused-header z = sym (refused-before (trace-header-checks h) rest c z (sym r))
-
-  module _ (z : c ≤ 0) where
-    pub header-limits : Limits h
-    header-limits = trace-limits h .0 (omega arith)
-
-    rest-decides : first-refusal (writer-checks (record-of h k ds) room) ≡ first-refusal rest
-    unfolding writer-checks
-    rest-decides = accepted-before (trace-header-checks h) rest tt (omega arith)
-
-    pub refused-steps : trace-steps h < k → 10 ≡ first-refusal (writer-checks (record-of h k ds) room)
-    refused-steps l = rw (rest-decides, lt-ltb (trace-steps h) k l)
-
-    module _ (t : Bool) (l : k ≤ trace-steps h) (e : t ≡ digit-beyond h k ds) where
-      pub refused-digit : t ≡ true → 11 ≡ first-refusal (writer-checks (record-of h k ds) room)
-      refused-digit f = rw (rest-decides, le-ltb (trace-steps h) k l, ← e, f)
-
-      pub refused-room : (n : ℕ) → t ≡ false → n ≡ trace-length h k → room < n → 23 ≡ first-refusal (writer-checks (record-of h k ds) room)
-      refused-room n f g q = rw (rest-decides, le-ltb (trace-steps h) k l, ← e, f, lt-ltb room (trace-length h k) (rw g at q))
-
-      pub refused-not : (n : ℕ) → t ≡ false → n ≡ trace-length h k → n ≤ room → 0 ≡ first-refusal (writer-checks (record-of h k ds) room)
-      refused-not n f g q = rw (rest-decides, le-ltb (trace-steps h) k l, ← e, f, le-ltb room (trace-length h k) (rw g at q))
-
--- ---- what the writer answers and leaves
-
-module _ (t : Record) (out : List ℕ) (c : ℕ) (r : c ≡ writer-refusal t (length out)) where
-  pub answer-refused : 0 < c → _≡_ {A = TraceWritten} (record { refusal = c; length = 0 }) (write-answer t (length out)) × (out ≡ write-buffer t out)
-  unfolding write-answer write-buffer
-  answer-refused z = rw (← r, ne-eqb c 0 (λ e. omega arith)) (refl, refl)
-
-  pub record-taken : c ≤ 0 → Valid t × (trace-length (t .header) (t .k) ≤ length out)
-  record-taken z = taken-is t (length out) .0 (omega arith)
-
-  pub answer-written : (n : ℕ) (b : List ℕ) → c ≤ 0 → n ≡ trace-length (t .header) (t .k) → b ≡ written out (trace-fields (t .header) (t .k) (t .digits))
-      → _≡_ {A = TraceWritten} (record { refusal = 0; length = n }) (write-answer t (length out)) × (b ≡ write-buffer t out)
-  unfolding write-answer write-buffer
-  answer-written n b z e d =
-      let y : writer-refusal t (length out) ≡ 0 = omega arith in
-      rw (y, e, d) (refl, refl)

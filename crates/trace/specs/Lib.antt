@@ -1,9 +1,4 @@
 pub mod Trace
-pub mod Groups
-pub mod Digits
-pub mod Part
-pub mod Valid
-pub mod RoundTrip
+pub mod Inner
 pub mod Theorems
-pub mod CaseA
 pub mod PastOrder

@@ -8,10 +8,10 @@ use mathlib.Core.Logic.{_⊎_}
 use Prim.Native.Nat.{ℕ, _<_, _≤_}
 use lib.IntN.{pos}
 use Rattle.integers.specs.Flat.{entry}
-use Rattle.state.specs.Digits.{all-steps}
+use Rattle.state.specs.State.{all-steps}
 use Rattle.state.specs.declared.State.{State}
 use Rattle.state.specs.PastOrder.{SameBelow}
-use Rattle.trace.specs.Trace.{read-answer, record-answer, write-answer, write-buffer}
+use Rattle.trace.specs.Trace.{trace-reader-answer, record-answer, trace-writer-answer, trace-writer-buffer}
 use Rattle.trace.specs.declared.Record.{Record}
 
 -- ---- a record
@@ -26,7 +26,7 @@ abbrev pub RecordZeros : Type 0
 RecordZeros = (s : State) → RecordZeroPast (record-answer s .trace)
 
 abbrev pub ReadZeros : Type 0
-ReadZeros = (bytes : List ℕ) → RecordZeroPast (read-answer bytes .trace)
+ReadZeros = (bytes : List ℕ) → RecordZeroPast (trace-reader-answer bytes .trace)
 
 -- ---- the record of a state
 
@@ -45,8 +45,8 @@ pub record SameMade (t w : Record) : Type 0 where
 
 -- the same answer with every room, and the same bytes in every buffer lent
 pub record WrittenAlike (t w : Record) : Type 0 where
-  pub answer : (room : ℕ) → write-answer t room ≡ write-answer w room
-  pub buffer : (out : List ℕ) → write-buffer t out ≡ write-buffer w out
+  pub answer : (room : ℕ) → trace-writer-answer t room ≡ trace-writer-answer w room
+  pub buffer : (out : List ℕ) → trace-writer-buffer t out ≡ trace-writer-buffer w out
 
 abbrev pub WriteBelow : Type 0
 WriteBelow = (t w : Record) → SameMade t w → WrittenAlike t w

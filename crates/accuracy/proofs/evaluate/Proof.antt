@@ -1,9 +1,9 @@
 -- The answer and the list are those of the calls, of which demand 3 holds.
 use mathlib.Core.Path.{_≡_}
-use Rattle.evaluator.specs.Evaluator.{least}
+use Rattle.evaluator.specs.Evaluator.{smaller}
 use Rattle.state.specs.State.{state-last}
 use Rattle.accuracy.specs.Calls.{budgets, advances}
-use Rattle.accuracy.proofs.Promised.{promise-refused, last-small, steppable, rows-readable, promise-short, promise-done}
+use Rattle.accuracy.proofs.Promised.{promise-refused, job-last-small, steppable, rows-readable, promise-short, promise-done}
 use borrow.Author.Needs.{needs}
 use Rattle.accuracy.proofs.evaluate.Statement.{statement}
 use Rattle.accuracy.proofs.evaluate.Tie as tie
@@ -25,11 +25,11 @@ steps-allowed-requires c κs =
     let e = c .before .before in
     let l = e .before in
     let a = l .before .before .before .args in
-    rw (c .last-step .ensures) (last-small (a .frame .now) (a .budgets .now) (a .out .now) (l .load .result) (l .load .ensures) (e .if1 .left))
+    rw (c .last-step .ensures) (job-last-small (a .frame .now) (a .budgets .now) (a .out .now) (l .load .result) (l .load .ensures) (e .if1 .left))
 
 -- the steps that the budgets allow of the job that load has made
 allowed : (m : tie.After-steps-allowed) → let l = m .before .before .before .before in
-    m .steps-allowed .result ≡ least (state-last (l .load .result .state)) (budgets (advances (l .before .before .before .args .budgets .now)))
+    m .steps-allowed .result ≡ smaller (state-last (l .load .result .state)) (budgets (advances (l .before .before .before .args .budgets .now)))
 allowed m = rw (m .before .last-step .ensures) at (m .steps-allowed .ensures)
 
 returns-2 : tie.Need-returns-2

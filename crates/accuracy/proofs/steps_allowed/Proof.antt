@@ -1,17 +1,18 @@
--- The invariant: `made` are the steps that the first i budgets allow. The measure is what is left of the list.
+-- The invariant: `made` are the steps that the first i budgets allow. The measure is what is left of the
+-- list.
 use mathlib.Core.Path.{_≡_}
 use Prim.Native.Nat.{_+_, _-_, _≤_}
 use native.Mathlib.Omega.{arith}
 use lib.ListN.{length, take}
 use lib.Seq.{take-all}
-use Rattle.evaluator.specs.Evaluator.{least}
+use Rattle.evaluator.specs.Evaluator.{smaller}
 use Rattle.accuracy.specs.Calls.{budgets, advances}
 use Rattle.accuracy.proofs.Runs.{allowed-none, allowed-most, allowed-more}
 use Rattle.accuracy.proofs.steps_allowed.Statement.{statement}
 use Rattle.accuracy.proofs.steps_allowed.Tie as tie
 
 abbrev Inv-loop : tie.InvT-loop
-Inv-loop list last made₀ i₀ made i = (i ≤ length list) × (made ≤ last) × (made ≡ least last (budgets (advances (take i list))))
+Inv-loop list last made₀ i₀ made i = (i ≤ length list) × (made ≤ last) × (made ≡ smaller last (budgets (advances (take i list))))
 
 abbrev μ-loop : tie.MeasureT-loop
 μ-loop list last made₀ i₀ made i = length list - i
@@ -19,25 +20,25 @@ abbrev μ-loop : tie.MeasureT-loop
 loop-holds : tie.Need-loop-holds Inv-loop μ-loop
 loop-holds c = (omega arith, omega arith, allowed-none _ (c .before .args .list .now))
 
-mul-least : tie.Need-mul-least Inv-loop μ-loop
-mul-least c = omega arith
+mul-smaller : tie.Need-mul-smaller Inv-loop μ-loop
+mul-smaller c = omega arith
 
-shared-slice-read-least : tie.Need-shared-slice-read-least Inv-loop μ-loop
-shared-slice-read-least c = omega arith
+shared-slice-read-smaller : tie.Need-shared-slice-read-smaller Inv-loop μ-loop
+shared-slice-read-smaller c = omega arith
 
-sub-least : tie.Need-sub-least Inv-loop μ-loop
-sub-least c = omega arith
+sub-smaller : tie.Need-sub-smaller Inv-loop μ-loop
+sub-smaller c = omega arith
 
-least-requires : tie.Need-least-requires Inv-loop μ-loop
-least-requires c κs = tt
+smaller-requires : tie.Need-smaller-requires Inv-loop μ-loop
+smaller-requires c κs = tt
 
 -- one budget more
-next : (c : tie.After-least Inv-loop μ-loop) → let l = c .before .before .before .loop in let a = c .before .before .before .before .before .args in
-    (l .made + c .least .result ≡ least (a .last) (budgets (advances (take (l .i + 1) (a .list .now))))) × (l .made + c .least .result ≤ a .last)
+next : (c : tie.After-smaller Inv-loop μ-loop) → let l = c .before .before .before .loop in let a = c .before .before .before .before .before .args in
+    (l .made + c .smaller .result ≡ smaller (a .last) (budgets (advances (take (l .i + 1) (a .list .now))))) × (l .made + c .smaller .result ≤ a .last)
 next c =
     let l = c .before .before .before .loop in
     let a = c .before .before .before .before .before .args in
-    let e = allowed-more (a .last) (l .made) (c .least .result) (a .list .now) (l .i) (omega arith) (l .inv .2) (c .least .ensures) in
+    let e = allowed-more (a .last) (l .made) (c .smaller .result) (a .list .now) (l .i) (omega arith) (l .inv .2) (c .smaller .ensures) in
     (e, allowed-most (a .last) _ _ e)
 
 add-made : tie.Need-add-made Inv-loop μ-loop
@@ -65,10 +66,10 @@ steps-allowed-spec =
     Inv-loop
     μ-loop
     loop-holds
-    mul-least
-    shared-slice-read-least
-    sub-least
-    least-requires
+    mul-smaller
+    shared-slice-read-smaller
+    sub-smaller
+    smaller-requires
     add-made
     add-i
     loop-less

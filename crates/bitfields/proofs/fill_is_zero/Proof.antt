@@ -1,4 +1,4 @@
--- `bitfields::fill_is_zero` meets its contract: the bits left over are the low ones of the last byte. Assumes nothing.
+-- `bitfields::fill_is_zero` meets its contract: the bits left over are the low ones of the last byte.
 use borrow.Author.Needs.{needs}
 use lib.Pow.{pow-pos}
 use Rattle.bitfields.proofs.Spelling.{slice-bytes}
@@ -6,14 +6,14 @@ use Rattle.bitfields.proofs.Steps.{last-fill}
 use Rattle.bitfields.proofs.fill_is_zero.Statement.{statement}
 use Rattle.bitfields.proofs.fill_is_zero.Tie as tie
 
-sub-wide : tie.Need-sub-wide
-sub-wide c = search needs
+sub-from-byte : tie.Need-sub-from-byte
+sub-from-byte c = search needs
 
-shared-slice-read-wide : tie.Need-shared-slice-read-wide
-shared-slice-read-wide c = search needs
+shared-slice-read-from-byte : tie.Need-shared-slice-read-from-byte
+shared-slice-read-from-byte c = search needs
 
-wide-requires : tie.Need-wide-requires
-wide-requires c κs = search needs
+from-byte-requires : tie.Need-from-byte-requires
+from-byte-requires c κs = search needs
 
 sub-pow2 : tie.Need-sub-pow2
 sub-pow2 c = search needs
@@ -29,7 +29,7 @@ returns c =
     let s = c .before .before .before .before in
     rw (
       c .pow2 .ensures,
-      c .before .wide .ensures,
+      c .before .from-byte .ensures,
       last-fill (s .args .b) (slice-bytes (s .args .s .now) (c .before .before .shared-slice-known2 .given)) (s .pre .0) (s .pre .1),
     )
 
@@ -37,9 +37,9 @@ pub fill-is-zero-spec : {M : Type 1} → statement M
 fill-is-zero-spec =
     tie.close
     (tie.spec
-    sub-wide
-    shared-slice-read-wide
-    wide-requires
+    sub-from-byte
+    shared-slice-read-from-byte
+    from-byte-requires
     sub-pow2
     pow2-requires
     rem-result

@@ -1,12 +1,12 @@
--- `bitfields::read_bytes` meets its contract. The loop's invariant: x is the number of the first j bytes, so it has 8 * j bits.
--- Assumes nothing.
+-- `bitfields::read_bytes` meets its contract. The loop's invariant: x is the number of the first j bytes, so
+-- it has 8 * j bits.
 use mathlib.Core.Path.{_≡_, refl}
 use Prim.Native.Nat.{_+_, _-_, _*_, _^_, _<_, _≤_}
 use native.Mathlib.Omega.{arith}
 use borrow.Author.Needs.{needs}
 use lib.ListN.{take, drop}
 use Rattle.bitfields.specs.Layout.{number, number8}
-use Rattle.bitfields.proofs.Steps.{read-fits, read-turn, read-turn-lt}
+use Rattle.bitfields.proofs.Steps.{read-fits, read-bytes-turn, read-bytes-turn-lt}
 use Rattle.bitfields.proofs.read_bytes.Statement.{statement}
 use Rattle.bitfields.proofs.read_bytes.Tie as tie
 
@@ -23,14 +23,14 @@ loop-holds c = (omega arith, refl, omega arith)
 mul-x : tie.Need-mul-x Inv-loop μ-loop
 mul-x c = omega (arith, read-fits (c .before .loop .j) (c .before .loop .inv .2) (omega arith))
 
-add-wide : tie.Need-add-wide Inv-loop μ-loop
-add-wide c = omega arith
+add-from-byte : tie.Need-add-from-byte Inv-loop μ-loop
+add-from-byte c = omega arith
 
-shared-slice-read-wide : tie.Need-shared-slice-read-wide Inv-loop μ-loop
-shared-slice-read-wide c = omega arith
+shared-slice-read-from-byte : tie.Need-shared-slice-read-from-byte Inv-loop μ-loop
+shared-slice-read-from-byte c = omega arith
 
-wide-requires : tie.Need-wide-requires Inv-loop μ-loop
-wide-requires c κs = search needs
+from-byte-requires : tie.Need-from-byte-requires Inv-loop μ-loop
+from-byte-requires c κs = search needs
 
 add-x : tie.Need-add-x Inv-loop μ-loop
 add-x c =
@@ -48,8 +48,8 @@ loop-again c =
     let b = c .before .before .before in
     let a = b .before .before .args in (
       omega arith,
-      rw (c .wide .ensures) (read-turn (a .s .now) (a .at) (b .loop .j) (b .loop .x) (omega arith) (b .loop .inv .1)),
-      rw (c .wide .ensures) (read-turn-lt (b .loop .j) (b .loop .inv .2) (omega (arith, c .before .shared-slice-known2 .given (a .at + b .loop .j)))),
+      rw (c .from-byte .ensures) (read-bytes-turn (a .s .now) (a .at) (b .loop .j) (b .loop .x) (omega arith) (b .loop .inv .1)),
+      rw (c .from-byte .ensures) (read-bytes-turn-lt (b .loop .j) (b .loop .inv .2) (omega (arith, c .before .shared-slice-known2 .given (a .at + b .loop .j)))),
     )
 
 returns : tie.Need-returns Inv-loop μ-loop
@@ -65,9 +65,9 @@ read-bytes-spec =
     μ-loop
     loop-holds
     mul-x
-    add-wide
-    shared-slice-read-wide
-    wide-requires
+    add-from-byte
+    shared-slice-read-from-byte
+    from-byte-requires
     add-x
     add-j
     loop-less

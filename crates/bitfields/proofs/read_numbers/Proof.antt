@@ -1,15 +1,15 @@
--- `bitfields::read_numbers` meets its contract. The loop's invariant: the first i words are the first i numbers, and the others are as they came.
--- Assumes nothing.
+-- `bitfields::read_numbers` meets its contract. The loop's invariant: the first i words are the first i
+-- numbers, and the others are as they came.
 use mathlib.Core.List.{_++_}
 use mathlib.Core.Path.{_≡_, refl, ap, _∙_}
 use Prim.Native.Nat.{ℕ, _+_, _-_, _*_, _≤_}
 use native.Mathlib.Omega.{arith}
 use lib.ListN.{length, drop, length-set}
-use Rattle.bitfields.specs.Layout.{run}
+use Rattle.bitfields.specs.Layout.{values-from}
 use Rattle.bitfields.specs.Twos.{numbers}
 use Rattle.bitfields.proofs.Reading.{field-lt}
 use Rattle.bitfields.proofs.Steps.{read-numbers-turn, step-eq, step-le}
-use Rattle.bitfields.proofs.Twos.{plain}
+use Rattle.integers.proofs.Machine.{i64-kept}
 use Rattle.bitfields.proofs.read_numbers.Statement.{statement}
 use Rattle.bitfields.proofs.read_numbers.Tie as tie
 
@@ -24,14 +24,14 @@ more : (c : tie.In-loop Inv-loop μ-loop) → c .before .before .before .args .w
 more c = step-le (c .before .before .before .args .w) (c .before .loop .i) (c .before .before .before .args .n) (omega arith)
 
 loop-holds : tie.Need-loop-holds Inv-loop μ-loop
-unfolding run
+unfolding values-from
 loop-holds c = (omega arith, omega arith, refl, refl)
 
 read-field-requires : tie.Need-read-field-requires Inv-loop μ-loop
 read-field-requires c κs = omega (arith, more c)
 
-to-signed-requires : tie.Need-to-signed-requires Inv-loop μ-loop
-to-signed-requires c κs = rw (c .read-field .ensures) (omega arith, omega arith, field-lt _ _ _)
+decode-requires : tie.Need-decode-requires Inv-loop μ-loop
+decode-requires c κs = rw (c .read-field .ensures) (omega arith, omega arith, field-lt _ _ _)
 
 mul-t11 : tie.Need-mul-t11 Inv-loop μ-loop
 mul-t11 c = omega arith
@@ -55,9 +55,9 @@ loop-again c =
     let e : b .loop .p ≡ a .at + a .w * b .loop .i = b .loop .inv .1 in (
       omega arith,
       ap (λ (p : ℕ). p + a .w) e ∙ step-eq (a .at) (a .w) (b .loop .i),
-      rw (plain _ (c .to-signed .ok))
-          (read-numbers-turn (a .out .now) (b .loop .out) (a .s .now) (a .at) (a .w) (b .loop .i) (c .to-signed .result) (omega arith)
-          (b .loop .inv .2) (c .to-signed .ensures ∙ rw (c .before .read-field .ensures, e))),
+      rw (i64-kept _ (c .decode .ok))
+          (read-numbers-turn (a .out .now) (b .loop .out) (a .s .now) (a .at) (a .w) (b .loop .i) (c .decode .result) (omega arith)
+          (b .loop .inv .2) (c .decode .ensures ∙ rw (c .before .read-field .ensures, e))),
       simp length-set (b .loop .inv .3),
     )
 
@@ -77,7 +77,7 @@ read-numbers-spec =
     μ-loop
     loop-holds
     read-field-requires
-    to-signed-requires
+    decode-requires
     mul-t11
     slice-set-from-out
     add-p

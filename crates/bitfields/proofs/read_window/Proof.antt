@@ -1,4 +1,4 @@
--- `bitfields::read_window` meets its contract, by the law of a window of bytes. Assumes nothing.
+-- `bitfields::read_window` meets its contract, by the law of a window of bytes.
 use native.Mathlib.Omega.{arith}
 use borrow.Author.Needs.{needs}
 use lib.Pow.{pow-pos}

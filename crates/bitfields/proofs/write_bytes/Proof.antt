@@ -1,11 +1,11 @@
--- `bitfields::write_bytes` meets its contract. The loop's invariant: the first j bytes are in place. Assumes nothing.
+-- `bitfields::write_bytes` meets its contract. The loop's invariant: the first j bytes are in place.
 use mathlib.Core.Path.{_≡_, refl, _∙_}
 use Prim.Native.Nat.{_+_, _-_, _≤_}
 use native.Mathlib.Omega.{arith}
 use lib.ListN.{length, length-set}
 use lib.Seq.{paste, paste-zero}
 use Rattle.bitfields.specs.Layout.{octets}
-use Rattle.bitfields.proofs.Steps.{paste-octets, write-turn}
+use Rattle.bitfields.proofs.Steps.{paste-octets, write-bytes-turn}
 use Rattle.bitfields.proofs.write_bytes.Statement.{statement}
 use Rattle.bitfields.proofs.write_bytes.Tie as tie
 
@@ -20,20 +20,20 @@ loop-holds c =
     let a = c .before .args in
     (omega arith, paste-zero (a .s .now) (a .at) (octets (a .n) (a .x)), refl)
 
-sub-narrow : tie.Need-sub-narrow Inv-loop μ-loop
-sub-narrow c = omega arith
+sub-to-byte : tie.Need-sub-to-byte Inv-loop μ-loop
+sub-to-byte c = omega arith
 
-sub-narrow-2 : tie.Need-sub-narrow-2 Inv-loop μ-loop
-sub-narrow-2 c = omega arith
+sub-to-byte-2 : tie.Need-sub-to-byte-2 Inv-loop μ-loop
+sub-to-byte-2 c = omega arith
 
-mul-narrow : tie.Need-mul-narrow Inv-loop μ-loop
-mul-narrow c = omega arith
+mul-to-byte : tie.Need-mul-to-byte Inv-loop μ-loop
+mul-to-byte c = omega arith
 
-shr-narrow : tie.Need-shr-narrow Inv-loop μ-loop
-shr-narrow c = omega arith
+shr-to-byte : tie.Need-shr-to-byte Inv-loop μ-loop
+shr-to-byte c = omega arith
 
-narrow-requires : tie.Need-narrow-requires Inv-loop μ-loop
-narrow-requires c κs = omega arith
+to-byte-requires : tie.Need-to-byte-requires Inv-loop μ-loop
+to-byte-requires c κs = omega arith
 
 add-s : tie.Need-add-s Inv-loop μ-loop
 add-s c = omega arith
@@ -52,8 +52,8 @@ loop-again c =
     let l = c .before .before .loop in
     let a = c .before .before .before .before .args in (
       omega arith,
-      write-turn (a .s .now) (l .s) (a .at) (a .n) (a .x) (l .j) (c .narrow .result) (omega arith) (omega arith) (l .inv .1) (c .narrow .ensures),
-      length-set (l .s) (a .at + l .j) (c .narrow .result) ∙ l .inv .2,
+      write-bytes-turn (a .s .now) (l .s) (a .at) (a .n) (a .x) (l .j) (c .to-byte .result) (omega arith) (omega arith) (l .inv .1) (c .to-byte .ensures),
+      length-set (l .s) (a .at + l .j) (c .to-byte .result) ∙ l .inv .2,
     )
 
 same-length : tie.Need-same-length Inv-loop μ-loop
@@ -72,11 +72,11 @@ write-bytes-spec =
     Inv-loop
     μ-loop
     loop-holds
-    sub-narrow
-    sub-narrow-2
-    mul-narrow
-    shr-narrow
-    narrow-requires
+    sub-to-byte
+    sub-to-byte-2
+    mul-to-byte
+    shr-to-byte
+    to-byte-requires
     add-s
     slice-write-s
     add-j

@@ -1,9 +1,9 @@
--- `bitfields::write_field` meets its contract, by the law of a field put into place. Assumes nothing.
+-- `bitfields::write_field` meets its contract, by the law of a field put into place.
 use native.Mathlib.Omega.{arith}
 use borrow.Author.Needs.{needs}
 use Rattle.bitfields.specs.Layout.{Bytes}
 use Rattle.bitfields.proofs.Spelling.{slice-bytes}
-use Rattle.bitfields.proofs.Steps.{joined-fits, shifted-fits, put-field}
+use Rattle.bitfields.proofs.Steps.{joined-fits, filled-fits, put-field}
 use Rattle.bitfields.proofs.write_field.Statement.{statement}
 use Rattle.bitfields.proofs.write_field.Tie as tie
 
@@ -16,11 +16,11 @@ add-n c = search needs
 add-n-2 : tie.Need-add-n-2
 add-n-2 c = search needs
 
-slice-read-wide : tie.Need-slice-read-wide
-slice-read-wide c = search needs
+slice-read-from-byte : tie.Need-slice-read-from-byte
+slice-read-from-byte c = search needs
 
-wide-requires : tie.Need-wide-requires
-wide-requires c κs = search needs
+from-byte-requires : tie.Need-from-byte-requires
+from-byte-requires c κs = search needs
 
 sub-kept : tie.Need-sub-kept
 sub-kept c = search needs
@@ -35,13 +35,13 @@ mul-x : tie.Need-mul-x
 mul-x c =
     let b = c .before .before .before in
     let a = b .before .args in
-    rw (c .pow2 .ensures, c .before .wide .ensures) (omega (arith, joined-fits (a .at) (a .w) (bytes b) (b .before .pre)))
+    rw (c .pow2 .ensures, c .before .from-byte .ensures) (omega (arith, joined-fits (a .at) (a .w) (bytes b) (b .before .pre)))
 
 add-x : tie.Need-add-x
 add-x c =
     let b = c .before .before .before in
     let a = b .before .args in
-    rw (c .pow2 .ensures, c .before .wide .ensures) (omega (arith, joined-fits (a .at) (a .w) (bytes b) (b .before .pre)))
+    rw (c .pow2 .ensures, c .before .from-byte .ensures) (omega (arith, joined-fits (a .at) (a .w) (bytes b) (b .before .pre)))
 
 mul-pow2 : tie.Need-mul-pow2
 mul-pow2 c = search needs
@@ -59,11 +59,11 @@ mul-x-2 : tie.Need-mul-x-2
 mul-x-2 c =
     let b = c .before .before .before .before in
     let a = b .before .args in
-    rw (c .pow22 .ensures, c .before .pow2 .ensures, c .before .before .wide .ensures)
-    (omega (arith, shifted-fits (a .at) (a .w) (bytes b) (b .before .pre)))
+    rw (c .pow22 .ensures, c .before .pow2 .ensures, c .before .before .from-byte .ensures)
+    (omega (arith, filled-fits (a .at) (a .w) (bytes b) (b .before .pre)))
 
-put-bytes-requires : tie.Need-put-bytes-requires
-put-bytes-requires c κs = search needs
+write-window-requires : tie.Need-write-window-requires
+write-window-requires c κs = search needs
 
 same-length : tie.Need-same-length
 same-length c = search needs
@@ -73,7 +73,7 @@ returns c =
     let d = c .before .before .before .before in
     let b = d .before .before .before .before in
     let a = b .before .args in
-    rw (c .before .before .put-bytes .ensures, d .pow22 .ensures, d .before .pow2 .ensures, d .before .before .wide .ensures)
+    rw (c .before .before .write-window .ensures, d .pow22 .ensures, d .before .pow2 .ensures, d .before .before .from-byte .ensures)
     (put-field (a .at) (a .w) (bytes b) (b .before .pre))
 
 pub write-field-spec : {M : Type 1} → statement M
@@ -82,8 +82,8 @@ write-field-spec =
     (tie.spec
     add-n
     add-n-2
-    slice-read-wide
-    wide-requires
+    slice-read-from-byte
+    from-byte-requires
     sub-kept
     shr-kept
     pow2-requires
@@ -94,6 +94,6 @@ write-field-spec =
     sub-pow2
     pow2-requires-2
     mul-x-2
-    put-bytes-requires
+    write-window-requires
     same-length
     returns)

@@ -1,5 +1,5 @@
--- `bitfields::write_numbers` meets its contract. The loop's invariant: the first i numbers are in place, with zeros to the byte after them.
--- Assumes nothing.
+-- `bitfields::write_numbers` meets its contract. The loop's invariant: the first i numbers are in place, with
+-- zeros to the byte after them.
 use mathlib.Core.List.{map}
 use mathlib.Core.Path.{_≡_, refl, ap, _∙_}
 use Prim.Native.Nat.{ℕ, _+_, _-_, _*_, _≤_}
@@ -13,7 +13,8 @@ use Rattle.bitfields.specs.Layout.{each}
 use Rattle.bitfields.specs.Twos.{encode, Fits}
 use Rattle.bitfields.proofs.Spelling.{slice-bytes}
 use Rattle.bitfields.proofs.Steps.{so-far, so-far-all, step-eq, step-le, write-numbers-turn}
-use Rattle.bitfields.proofs.Twos.{encode-lt, in-word, plain}
+use Rattle.bitfields.proofs.Twos.{encode-lt, in-word}
+use Rattle.integers.proofs.Machine.{i64-kept}
 use Rattle.bitfields.proofs.write_numbers.Statement.{statement}
 use Rattle.bitfields.proofs.write_numbers.Tie as tie
 
@@ -35,7 +36,7 @@ next-fits : (t : tie.In-loop Inv-loop μ-loop) → Fits (start t .args .w) (next
 next-fits t = start t .pre .5 .each-fits (t .before .loop .i) (omega arith)
 
 next-plain : (t : tie.In-loop Inv-loop μ-loop) → toZ w64 (ofZ w64 (next t)) ≡ next t
-next-plain t = plain (next t) (in-word (start t .pre .3) (next-fits t))
+next-plain t = i64-kept (next t) (in-word (start t .pre .3) (next-fits t))
 
 room : (t : tie.In-loop Inv-loop μ-loop) → start t .args .w * t .before .loop .i + start t .args .w ≤ start t .args .w * length (start t .args .nums .now)
 room t = step-le (start t .args .w) (t .before .loop .i) (length (start t .args .nums .now)) (omega arith)
@@ -44,21 +45,21 @@ loop-holds : tie.Need-loop-holds Inv-loop μ-loop
 unfolding so-far
 loop-holds c = (omega arith, omega arith, refl, refl)
 
-mul-to-bits : tie.Need-mul-to-bits Inv-loop μ-loop
-mul-to-bits c = omega arith
+mul-encode : tie.Need-mul-encode Inv-loop μ-loop
+mul-encode c = omega arith
 
-shared-slice-copy-out-to-bits : tie.Need-shared-slice-copy-out-to-bits Inv-loop μ-loop
-shared-slice-copy-out-to-bits c = omega arith
+shared-slice-copy-out-encode : tie.Need-shared-slice-copy-out-encode Inv-loop μ-loop
+shared-slice-copy-out-encode c = omega arith
 
-to-bits-requires : tie.Need-to-bits-requires Inv-loop μ-loop
-to-bits-requires c κs =
+encode-requires : tie.Need-encode-requires Inv-loop μ-loop
+encode-requires c κs =
     let t = c .before .before in
     (omega arith, omega arith, rw (next-plain t) (next-fits t))
 
 write-field-requires : tie.Need-write-field-requires Inv-loop μ-loop
 write-field-requires c κs =
     let t = c .before .before .before in
-    (omega (arith, room t), omega arith, omega arith, rw (c .to-bits .ensures, next-plain t) (encode-lt (start t .pre .2) (next-fits t)))
+    (omega (arith, room t), omega arith, omega arith, rw (c .encode .ensures, next-plain t) (encode-lt (start t .pre .2) (next-fits t)))
 
 add-p : tie.Need-add-p Inv-loop μ-loop
 add-p c = omega (arith, room (c .before .before .before .before .before .before))
@@ -78,8 +79,8 @@ loop-again c =
       omega arith,
       ap (λ (p : ℕ). p + a .w) (l .inv .1) ∙ step-eq (a .at) (a .w) (l .i),
       c .before .before .write-field .ensures
-          ∙ write-numbers-turn (a .dst .now) (l .dst) (a .at) (a .w) (a .nums .now) (l .i) (l .p) (c .before .before .before .to-bits .result)
-          (l .inv .2) (l .inv .1) (c .before .before .before .to-bits .ensures ∙ rw (next-plain t))
+          ∙ write-numbers-turn (a .dst .now) (l .dst) (a .at) (a .w) (a .nums .now) (l .i) (l .p) (c .before .before .before .encode .result)
+          (l .inv .2) (l .inv .1) (c .before .before .before .encode .ensures ∙ rw (next-plain t))
           (slice-bytes (a .dst .now) (t .before .before .slice-known .given)) (s .pre .2) (s .pre .5) (omega arith),
       c .before .before .write-field .kept .0 ∙ l .inv .3,
     )
@@ -100,9 +101,9 @@ write-numbers-spec =
     Inv-loop
     μ-loop
     loop-holds
-    mul-to-bits
-    shared-slice-copy-out-to-bits
-    to-bits-requires
+    mul-encode
+    shared-slice-copy-out-encode
+    encode-requires
     write-field-requires
     add-p
     add-i

@@ -3,7 +3,7 @@ use native.Mathlib.Omega.{arith}
 use borrow.Author.Needs.{needs}
 use mir.Syntax.{w64}
 use mir.Val.{toZ, ofZ}
-use Rattle.integers.specs.Order.{zarith}
+use Rattle.integers.proofs.Order.{zarith}
 use Rattle.cases.proofs.Compare.{between}
 use Rattle.cases.proofs.natural.Statement.{statement}
 use Rattle.cases.proofs.natural.Tie as tie

@@ -7,19 +7,16 @@ use borrow.Author.Needs.{needs}
 use borrow.Author.Tests.{not-false}
 use lib.ListN.{length}
 use Rattle.integers.specs.Flat.{at}
-use Rattle.cases.specs.Words.{Said}
+use Rattle.cases.specs.Words.{Said, word-at}
 use Rattle.cases.proofs.Compare.{no, same-number}
 use Rattle.cases.proofs.same_list.Statement.{statement}
 use Rattle.cases.proofs.same_list.Tie as tie
 
 abbrev Inv-loop : tie.InvT-loop
-Inv-loop t place v n i₀ i = (i ≤ n) × (n ≤ length v) × Said t place n × ((k : ℕ) → k < i → at t (place + 1 + k) ≡ at v k)
+Inv-loop t place v n i₀ i = (i ≤ n) × (n ≤ length v) × Said t place n × ((k : ℕ) → k < i → word-at t (place + 1 + k) ≡ at v k)
 
 abbrev μ-loop : tie.MeasureT-loop
 μ-loop t place v n i₀ i = n - i
-
-says-requires : tie.Need-says-requires Inv-loop μ-loop
-says-requires c κs = search needs
 
 returns : tie.Need-returns Inv-loop μ-loop
 returns c = no
@@ -28,29 +25,8 @@ loop-holds : tie.Need-loop-holds Inv-loop μ-loop
 loop-holds c =
     (search needs, search needs, c .before .says .ensures (not-false _ (c .if2 .left)), λ k h. absurd (omega arith))
 
-add-word : tie.Need-add-word Inv-loop μ-loop
-add-word c = search needs
-
-add-word-2 : tie.Need-add-word-2 Inv-loop μ-loop
-add-word-2 c = search needs
-
-word-requires : tie.Need-word-requires Inv-loop μ-loop
-word-requires c κs = search needs
-
-mul-if3 : tie.Need-mul-if3 Inv-loop μ-loop
-mul-if3 c = search needs
-
-shared-slice-copy-out-if3 : tie.Need-shared-slice-copy-out-if3 Inv-loop μ-loop
-shared-slice-copy-out-if3 c = search needs
-
 returns-2 : tie.Need-returns-2 Inv-loop μ-loop
 returns-2 c = no
-
-add-i : tie.Need-add-i Inv-loop μ-loop
-add-i c = search needs
-
-loop-less : tie.Need-loop-less Inv-loop μ-loop
-loop-less c = search needs
 
 loop-again : tie.Need-loop-again Inv-loop μ-loop
 loop-again c =
@@ -70,19 +46,6 @@ returns-3 c =
 pub same-list-spec : {M : Type 1} → statement M
 same-list-spec =
     tie.close
-    (tie.spec
-    Inv-loop
-    μ-loop
-    says-requires
-    returns
-    loop-holds
-    add-word
-    add-word-2
-    word-requires
-    mul-if3
-    shared-slice-copy-out-if3
-    returns-2
-    add-i
-    loop-less
-    loop-again
-    returns-3)
+    (tie.spec Inv-loop μ-loop (λ c κs. search needs) returns loop-holds (λ c. search needs)
+    (λ c. search needs) (λ c κs. search needs) (λ c. search needs) (λ c. search needs) returns-2
+    (λ c. search needs) (λ c. search needs) loop-again returns-3)

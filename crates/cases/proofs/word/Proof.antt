@@ -1,22 +1,20 @@
--- Past the last word the list has its default, 0.
-use mathlib.Core.Path.{sym}
+-- Below 735 the word stands in its line, and past that there is none.
+use mathlib.Core.Path.{refl}
 use borrow.Author.Needs.{needs}
-use lib.IntN.{pos}
-use lib.ListN.{List·getD-eq-default}
+use borrow.Author.Tests.{lt-ltb, le-ltb}
+use mir.Syntax.{w64}
+use mir.Facts.{toZ-ofZ}
 use Rattle.cases.proofs.word.Statement.{statement}
 use Rattle.cases.proofs.word.Tie as tie
 
-mul-result : tie.Need-mul-result
-mul-result c = search needs
-
-shared-slice-copy-out-result : tie.Need-shared-slice-copy-out-result
-shared-slice-copy-out-result c = search needs
-
 returns : tie.Need-returns
-returns c = search needs
+returns c = rw (lt-ltb (c .before .before .args .place) 735 (c .before .if1 .taken)) (toZ-ofZ {w = w64} (record { sfits = c .result .given }))
 
 returns-2 : tie.Need-returns-2
-returns-2 c = sym (List·getD-eq-default (c .before .args .t .now) (pos 0) (c .if1 .left))
+returns-2 c = rw (le-ltb (c .before .args .place) 735 (c .if1 .left)) refl
 
 pub word-spec : {M : Type 1} → statement M
-word-spec = tie.close (tie.spec mul-result shared-slice-copy-out-result returns returns-2)
+word-spec =
+    tie.close
+    (tie.spec (λ c. search needs) (λ c. search needs) (λ c. search needs) (λ c. search needs) returns
+    returns-2)

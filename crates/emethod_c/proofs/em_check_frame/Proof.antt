@@ -1,5 +1,5 @@
 use borrow.Author.Needs.{needs}
-use Rattle.emethod_c.proofs.Loads.{check-refused, check-accepted, order-most}
+use Rattle.emethod_c.proofs.Jobs.{check-refused, check-accepted, order-most}
 use Rattle.emethod_c.proofs.em_check_frame.Statement.{statement}
 use Rattle.emethod_c.proofs.em_check_frame.Tie as tie
 

@@ -9,9 +9,6 @@ slice-aggregate-evaluate c = search needs
 evaluate-requires : tie.Need-evaluate-requires
 evaluate-requires c κs = search needs
 
-counted-requires : tie.Need-counted-requires
-counted-requires c κs = search needs
-
 answer-requires : tie.Need-answer-requires
 answer-requires c κs = search needs
 
@@ -20,8 +17,8 @@ same-length c = search needs
 
 returns : tie.Need-returns
 returns c =
-    let e = c .before .before .before .evaluate in
-    record { evaluated = e .result; promise = e .ensures; answer = rw (← c .before .counted .ensures) (c .answer .ensures) }
+    let e = c .before .before .evaluate in
+    record { evaluated = e .result; promise = e .ensures; answer = c .answer .ensures }
 
 pub em-evaluate-spec : {M : Type 1} → statement M
 em-evaluate-spec =
@@ -29,7 +26,6 @@ em-evaluate-spec =
     (tie.spec
     slice-aggregate-evaluate
     evaluate-requires
-    counted-requires
     answer-requires
     same-length
     returns)

@@ -1,7 +1,7 @@
 -- A refused trace and too little room change nothing; else the words are put.
 use borrow.Author.Needs.{needs}
 use native.Mathlib.Omega.{arith}
-use Rattle.emethod_c.proofs.Traces.{read-refused, read-limits, read-steps, read-count, read-short, read-whole}
+use Rattle.emethod_c.proofs.Words.{words-refused, words-limits, words-steps, words-most, words-short, words-whole}
 use Rattle.emethod_c.proofs.em_read_trace.Statement.{statement}
 use Rattle.emethod_c.proofs.em_read_trace.Tie as tie
 
@@ -15,21 +15,21 @@ returns : tie.Need-returns
 returns c =
     let l = c .before .before in
     let a = l .before .before .args in
-    read-refused (a .trace .now) (l .read-trace .result) (l .read-trace .ensures) (c .before .if1 .taken) (c .answer .result) (a .words .now) (c .answer .ensures)
+    words-refused (a .trace .now) (l .read-trace .result) (l .read-trace .ensures) (c .before .if1 .taken) (c .answer .result) (a .words .now) (c .answer .ensures)
 
 mul-size : tie.Need-mul-size
 mul-size c =
     let l = c .before .before .before in
     let e = c .before .before in
     let a = l .before .before .args in
-    omega (arith, read-count (a .trace .now) (l .read-trace .result) (l .read-trace .ensures) (e .if1 .left))
+    omega (arith, words-most (a .trace .now) (l .read-trace .result) (l .read-trace .ensures) (e .if1 .left))
 
 add-size : tie.Need-add-size
 add-size c =
     let l = c .before .before .before in
     let e = c .before .before in
     let a = l .before .before .args in
-    omega (arith, read-count (a .trace .now) (l .read-trace .result) (l .read-trace .ensures) (e .if1 .left))
+    omega (arith, words-most (a .trace .now) (l .read-trace .result) (l .read-trace .ensures) (e .if1 .left))
 
 answer-requires-2 : tie.Need-answer-requires-2
 answer-requires-2 c κs = search needs
@@ -39,7 +39,7 @@ returns-2 c =
     let l = c .before .before .before .before .before in
     let e = c .before .before .before .before in
     let a = l .before .before .args in
-    read-short (a .trace .now) (l .read-trace .result) (l .read-trace .ensures) (e .if1 .left)
+    words-short (a .trace .now) (l .read-trace .result) (l .read-trace .ensures) (e .if1 .left)
     (c .answer2 .result) (a .words .now) (c .before .if2 .taken) (c .answer2 .ensures)
 
 put-words-requires : tie.Need-put-words-requires
@@ -47,8 +47,8 @@ put-words-requires c κs =
     let l = c .before .before .before .before .before .before .before in
     let e = c .before .before .before .before .before .before in
     let a = l .before .before .args in (
-      read-limits (a .trace .now) (l .read-trace .result) (l .read-trace .ensures) (e .if1 .left),
-      read-steps (a .trace .now) (l .read-trace .result) (l .read-trace .ensures) (e .if1 .left),
+      words-limits (a .trace .now) (l .read-trace .result) (l .read-trace .ensures) (e .if1 .left),
+      words-steps (a .trace .now) (l .read-trace .result) (l .read-trace .ensures) (e .if1 .left),
       c .before .before .before .if2 .left,
     )
 
@@ -63,7 +63,7 @@ returns-3 c =
     let l = c .before .before .before .before .before .before .before .before .before .before in
     let e = c .before .before .before .before .before .before .before .before .before in
     let a = l .before .before .args in
-    read-whole (a .trace .now) (l .read-trace .result) (l .read-trace .ensures) (e .if1 .left)
+    words-whole (a .trace .now) (l .read-trace .result) (l .read-trace .ensures) (e .if1 .left)
     (c .answer3 .result) (a .words .now) _ (c .before .before .before .before .before .before .if2 .left) (c .answer3 .ensures) (c .before .before .put-words .ensures)
 
 pub em-read-trace-spec : {M : Type 1} → statement M

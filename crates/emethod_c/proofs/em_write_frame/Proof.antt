@@ -12,7 +12,6 @@ same-length : tie.Need-same-length
 same-length c = search needs
 
 returns : tie.Need-returns
-unfolding Rattle.emethod_c.specs.Foreign.frame-written
 returns c =
     let w = c .before .before .before .write-frame in
     (rw (← w .ensures .0) (c .answer .ensures), w .ensures .1)

@@ -1,6 +1,6 @@
 -- A refused frame changes nothing; else the record of the job after its advance is written.
 use borrow.Author.Needs.{needs}
-use Rattle.emethod_c.proofs.Loads.{trace-refused, trace-accepted}
+use Rattle.emethod_c.proofs.Jobs.{job-trace-refused, job-trace-accepted}
 use Rattle.emethod_c.proofs.em_write_trace.Statement.{statement}
 use Rattle.emethod_c.proofs.em_write_trace.Tie as tie
 
@@ -14,7 +14,7 @@ returns : tie.Need-returns
 returns c =
     let l = c .before .before .before in
     let a = l .before .before .before .args in
-    trace-refused (a .frame .now) (l .load .result) (l .load .ensures) (c .before .if1 .taken) (a .budget) (c .answer .result) (a .out .now) (c .answer .ensures)
+    job-trace-refused (a .frame .now) (l .load .result) (l .load .ensures) (c .before .if1 .taken) (a .budget) (c .answer .result) (a .out .now) (c .answer .ensures)
 
 advance-requires : tie.Need-advance-requires
 advance-requires c κs = search needs
@@ -39,7 +39,7 @@ returns-2 c =
     let e = v .before .before in
     let l = e .before .before in
     let a = l .before .before .before .args in
-    trace-accepted (a .frame .now) (l .load .result) (l .load .ensures) (e .if1 .left) (a .budget) (v .advance .result) (t .record-of .result) (w .write-trace .result)
+    job-trace-accepted (a .frame .now) (l .load .result) (l .load .ensures) (e .if1 .left) (a .budget) (v .advance .result) (t .record-of .result) (w .write-trace .result)
     (c .answer2 .result) (a .out .now) _ (v .advance .ensures) (t .record-of .ensures) (w .write-trace .ensures .0) (w .write-trace .ensures .1) (c .answer2 .ensures)
 
 pub em-write-trace-spec : {M : Type 1} → statement M

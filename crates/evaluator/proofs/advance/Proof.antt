@@ -1,4 +1,5 @@
--- What is made is what is left of the steps and the budget; the state is put together from the arrays that the steps leave.
+-- What is made is what is left of the steps and the budget; the state is put together from the arrays that
+-- the steps leave.
 use mathlib.Core.Path.{_≡_, sym, _∙_}
 use mathlib.Core.Bool.{true}
 use mathlib.Core.List.{map}
@@ -8,10 +9,10 @@ use borrow.Author.Needs.{needs}
 use borrow.Kind.Array.{good-length, eSInt}
 use lib.ListN.{length, length-map}
 use mir.Syntax.{w8}
-use Rattle.state.specs.Sound.{Sound}
-use Rattle.evaluator.specs.Steppable.{Steppable}
-use Rattle.evaluator.proofs.Calls.{least-most, advance-refuses, advance-makes, advance-takes}
-use Rattle.evaluator.proofs.Stepping.{last-small, busy-whole, steps-whole}
+use Rattle.state.specs.PassesLimits.{PassesLimits}
+use Rattle.stepping.specs.Inner.{MayStep}
+use Rattle.evaluator.proofs.Calls.{smaller-most, advance-refuses, advance-makes, advance-takes}
+use Rattle.stepping.proofs.Stepping.{steps-have-room, busy-whole, steps-whole}
 use Rattle.evaluator.proofs.advance.Statement.{statement}
 use Rattle.evaluator.proofs.advance.Tie as tie
 
@@ -26,22 +27,22 @@ room c =
     let ds = c .args .s .digits in
     sym (length-map ds (λ x. x)) ∙ good-length (eSInt w8) 960 (map (λ x. x) ds) _ (c .good .0 .1 .1 .1 .1 .1 .1 .1 .0)
 
-accepted : (c : tie.Then1) → let s = start (c .before) .args .s in (s .busy ≡ true) × Sound s × (s .k < c .before .before .last-step .result)
+accepted : (c : tie.Then1) → let s = start (c .before) .args .s in (s .busy ≡ true) × PassesLimits s × (s .k < c .before .before .last-step .result)
 accepted c =
     let a = start (c .before) .args in
     let l = c .before .before in
     advance-takes (a .s) (a .budget) _ _ _ (l .before .check .ensures) (l .last-step .ensures) (c .before .advance-refusal .ensures) (c .if1 .taken)
 
-steppable : (c : tie.After-least) → Steppable (start (c .before .before) .args .s) (c .least .result)
-steppable c =
+may-step : (c : tie.After-smaller) → MayStep (start (c .before .before) .args .s) (c .smaller .result)
+may-step c =
     let t = c .before in
     let l = t .before .before in
     let a = start (t .before) .args in
     let h = accepted t in
     record {
-      sound = h .1;
+      passes = h .1;
       room = room (start (t .before));
-      left = omega (arith, h .2, c .least .ensures, least-most (a .budget) (l .last-step .result - a .s .k), l .last-step .ensures);
+      left = omega (arith, h .2, c .smaller .ensures, smaller-most (a .budget) (l .last-step .result - a .s .k), l .last-step .ensures);
     }
 
 -- ---- the needs
@@ -55,19 +56,19 @@ last-step-requires c κs = search needs
 advance-refusal-requires : tie.Need-advance-refusal-requires
 advance-refusal-requires c κs = search needs
 
-sub-least : tie.Need-sub-least
-sub-least c = omega (arith, accepted c .2)
+sub-smaller : tie.Need-sub-smaller
+sub-smaller c = omega (arith, accepted c .2)
 
-least-requires : tie.Need-least-requires
-least-requires c κs = search needs
+smaller-requires : tie.Need-smaller-requires
+smaller-requires c κs = search needs
 
 make-steps-requires : tie.Need-make-steps-requires
 make-steps-requires c κs =
     let l = c .before .before .before .before .before .before in
-    rw (busy-whole (start (l .before .before) .args .s) (accepted (l .before) .0)) (steppable l)
+    rw (busy-whole (start (l .before .before) .args .s) (accepted (l .before) .0)) (may-step l)
 
 add-t : tie.Need-add-t
-add-t c = omega (arith, last-small (steppable (c .before .before .before .before .before .before .before)))
+add-t c = omega (arith, steps-have-room (may-step (c .before .before .before .before .before .before .before)))
 
 returns : tie.Need-returns
 returns c =
@@ -76,7 +77,7 @@ returns c =
     let a = start r .args in
     let e = busy-whole (a .s) (accepted (l .before) .0) in
     let m = rw e at (c .make-steps .ensures) in
-    advance-makes (a .s) (a .budget) _ _ _ (r .before .before .check .ensures) (r .before .last-step .ensures) (r .advance-refusal .ensures) _ _ (l .before .if1 .taken) (l .least .ensures)
+    advance-makes (a .s) (a .budget) _ _ _ (r .before .before .check .ensures) (r .before .last-step .ensures) (r .advance-refusal .ensures) _ _ (l .before .if1 .taken) (l .smaller .ensures)
     (steps-whole (a .s) _ _ _ (m .0) (m .1))
 
 returns-2 : tie.Need-returns-2
@@ -92,8 +93,8 @@ advance-spec =
     check-requires
     last-step-requires
     advance-refusal-requires
-    sub-least
-    least-requires
+    sub-smaller
+    smaller-requires
     make-steps-requires
     add-t
     returns

@@ -1,13 +1,14 @@
--- The invariant: the list's first i words are the readings of the first i rows, and the others are as they came. The measure is what is left of the
--- rows.
+-- The invariant: the list's first i words are the readings of the first i rows, and the others are as they
+-- came. The measure is what is left of the rows.
 use mathlib.Core.Path.{_≡_, refl, _∙_}
 use Prim.Native.Nat.{_-_, _≤_}
 use native.Mathlib.Omega.{arith}
 use lib.ListN.{length, length-set}
 use Rattle.recurrence.specs.Recurrence.{reading}
-use Rattle.state.specs.Digits.{digits-of}
-use Rattle.evaluator.proofs.Arrays.{number-kept, replaced, replaced-next, replaced-all}
-use Rattle.evaluator.proofs.Horner.{readable}
+use Rattle.state.specs.State.{digits-of}
+use Rattle.integers.proofs.Machine.{i64-kept}
+use Rattle.evaluator.proofs.Arrays.{replaced, replaced-next, replaced-all}
+use Rattle.evaluator.proofs.Horner.{may-read}
 use Rattle.evaluator.proofs.put_readings.Statement.{statement}
 use Rattle.evaluator.proofs.put_readings.Tie as tie
 
@@ -27,7 +28,7 @@ loop-holds c = (omega arith, refl, refl)
 reading-requires : tie.Need-reading-requires Inv-loop μ-loop
 reading-requires c κs =
     let r = c .before .before in
-    readable (r .before .pre .0) _ _ (c .loop-test .taken) (r .radix .ensures)
+    may-read (r .before .pre .0) _ _ (c .loop-test .taken) (r .radix .ensures)
 
 mul-t10 : tie.Need-mul-t10 Inv-loop μ-loop
 mul-t10 c = let i = c .before in omega (arith, i .before .before .before .pre .0 .limits .order-most, i .loop-test .taken)
@@ -50,7 +51,7 @@ loop-again c =
       omega arith,
       simp length-set (l .inv .1),
       replaced-next (a .out .now) (a .h .n) (reading (r .radix .result) (digits-of (a .digits .now)) (a .k)) (l .out) (l .i) _ (i .loop-test .taken) (r .before .pre .1) (l .inv .2)
-          (number-kept _ (c .reading .ok) ∙ c .reading .ensures),
+          (i64-kept _ (c .reading .ok) ∙ c .reading .ensures),
     )
 
 same-length : tie.Need-same-length Inv-loop μ-loop

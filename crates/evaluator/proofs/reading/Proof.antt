@@ -5,10 +5,10 @@ use native.Mathlib.Omega.{arith}
 use lib.IntN.{pos}
 use mir.Syntax.{w64}
 use mir.Val.{toZ}
-use Rattle.integers.specs.Machine.{bounded, machine-fits}
+use Rattle.integers.proofs.Machine.{bounded, machine-fits}
 use Rattle.recurrence.specs.Recurrence.{reading}
-use Rattle.state.specs.Digits.{digits-of}
-use Rattle.evaluator.proofs.Horner.{reading-zero, product-fits, sum-fits, reading-next}
+use Rattle.state.specs.State.{digits-of}
+use Rattle.evaluator.proofs.Horner.{reading-zero, reading-product-fits, reading-sum-fits, reading-next}
 use Rattle.evaluator.proofs.reading.Statement.{statement}
 use Rattle.evaluator.proofs.reading.Tie as tie
 
@@ -25,7 +25,7 @@ loop-holds : tie.Need-loop-holds Inv-loop μ-loop
 loop-holds c = (omega arith, sym (reading-zero _ _ _))
 
 mul-y : tie.Need-mul-y Inv-loop μ-loop
-mul-y c = product-fits (c .before .before .pre) (c .before .loop .j) (c .loop-test .taken) (c .before .loop .y) (c .before .loop .inv .1)
+mul-y c = reading-product-fits (c .before .before .pre) (c .before .loop .j) (c .loop-test .taken) (c .before .loop .y) (c .before .loop .inv .1)
 
 mul-widen : tie.Need-mul-widen Inv-loop μ-loop
 mul-widen c = omega arith
@@ -42,7 +42,7 @@ widen-requires c κs = tt
 add-y : tie.Need-add-y Inv-loop μ-loop
 add-y c =
     let l = c .before .before .before in
-    sum-fits (l .before .pre) (l .loop .j) (c .before .before .loop-test .taken) (l .loop .y) (l .loop .inv .1) _ (c .widen .ensures)
+    reading-sum-fits (l .before .pre) (l .loop .j) (c .before .before .loop-test .taken) (l .loop .y) (l .loop .inv .1) _ (c .widen .ensures)
 
 add-j : tie.Need-add-j Inv-loop μ-loop
 add-j c = omega arith

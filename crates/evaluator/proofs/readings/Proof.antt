@@ -1,9 +1,9 @@
 -- A refused call leaves the list; else the rows' readings are put into it.
-use Rattle.state.specs.Sound.{Sound}
+use Rattle.state.specs.PassesLimits.{PassesLimits}
 use Prim.Native.Nat.{_≤_}
 use lib.ListN.{length}
 use Rattle.evaluator.proofs.Calls.{readings-refuses, readings-writes, readings-takes}
-use Rattle.evaluator.proofs.Horner.{sound-readable}
+use Rattle.evaluator.proofs.Horner.{may-read-rows}
 use borrow.Author.Needs.{needs}
 use Rattle.evaluator.proofs.readings.Statement.{statement}
 use Rattle.evaluator.proofs.readings.Tie as tie
@@ -11,8 +11,8 @@ use Rattle.evaluator.proofs.readings.Tie as tie
 abbrev start : tie.After-readings-refusal → tie.Start
 start c = c .before .before .before .before .before .before .before
 
--- where nothing is refused the state is sound, and the list has a word for every row
-accepted : (c : tie.Then1) → let a = start (c .before) .args in Sound (a .t1) × (a .t1 .header .n ≤ length (a .out .now))
+-- where nothing is refused the state passes its limits, and the list has a word for every row
+accepted : (c : tie.Then1) → let a = start (c .before) .args in PassesLimits (a .t1) × (a .t1 .header .n ≤ length (a .out .now))
 accepted c =
     let a = start (c .before) .args in
     readings-takes (a .t1) (a .out .now) _ _ (c .before .before .check .ensures) (c .before .readings-refusal .ensures) (c .if1 .taken)
@@ -24,7 +24,7 @@ readings-refusal-requires : tie.Need-readings-refusal-requires
 readings-refusal-requires c κs = search needs
 
 put-readings-requires : tie.Need-put-readings-requires
-put-readings-requires c κs = let h = accepted (c .before .before .before) in (sound-readable (h .0), h .1)
+put-readings-requires c κs = let h = accepted (c .before .before .before) in (may-read-rows (h .0), h .1)
 
 same-length : tie.Need-same-length
 same-length c = search needs

@@ -2,7 +2,7 @@
 use Prim.Native.Nat.{_-_}
 use native.Mathlib.Omega.{arith}
 use lib.ListN.{length}
-use Rattle.bitfields.proofs.Twos.{plain}
+use Rattle.integers.proofs.Machine.{i64-kept}
 use Rattle.frame.proofs.Writer.{FitBefore, fit-start, fit-turn, fit-fails, fit-all}
 use Rattle.frame.proofs.all_fit.Statement.{statement}
 use Rattle.frame.proofs.all_fit.Tie as tie
@@ -29,7 +29,7 @@ returns : tie.Need-returns Inv-loop μ-loop
 returns c =
     let f = c .before in
     let l = f .before .before .before in
-    fit-fails (l .loop .inv) (omega arith) (rw (plain _ (f .before .fits-arg .given)) at (f .fits2 .ensures)) (c .if1 .taken)
+    fit-fails (l .loop .inv) (omega arith) (rw (i64-kept _ (f .before .fits-arg .given)) at (f .fits2 .ensures)) (c .if1 .taken)
 
 add-i : tie.Need-add-i Inv-loop μ-loop
 add-i c = omega arith
@@ -41,7 +41,7 @@ loop-again : tie.Need-loop-again Inv-loop μ-loop
 loop-again c =
     let f = c .before in
     let l = f .before .before .before in
-    fit-turn (l .loop .inv) (omega arith) (rw (plain _ (f .before .fits-arg .given)) at (f .fits2 .ensures)) (c .if1 .left)
+    fit-turn (l .loop .inv) (omega arith) (rw (i64-kept _ (f .before .fits-arg .given)) at (f .fits2 .ensures)) (c .if1 .left)
 
 returns-2 : tie.Need-returns-2 Inv-loop μ-loop
 returns-2 c = fit-all (c .before .loop .inv) (omega arith)

@@ -5,7 +5,7 @@ use Prim.Native.Nat.{_-_, _≤_}
 use native.Mathlib.Omega.{arith}
 use lib.ListN.{length, take, drop, length-set}
 use lib.Seq.{take-length}
-use Rattle.bitfields.proofs.Twos.{plain}
+use Rattle.integers.proofs.Machine.{i64-kept}
 use Rattle.frame.proofs.Reader.{copy-turn}
 use Rattle.frame.proofs.copy.Statement.{statement}
 use Rattle.frame.proofs.copy.Tie as tie
@@ -43,7 +43,7 @@ loop-again c =
     let a = c .before .before .before .args in (
       omega arith,
       simp length-set (l .inv .1),
-      copy-turn (a .out .now) (a .v .now) (l .i) (omega arith) (omega arith) (l .inv .2) (plain _ (c .out .given)),
+      copy-turn (a .out .now) (a .v .now) (l .i) (omega arith) (omega arith) (l .inv .2) (i64-kept _ (c .out .given)),
     )
 
 same-length : tie.Need-same-length Inv-loop μ-loop

@@ -1,7 +1,7 @@
 -- At most 1,431 bytes.
 use borrow.Author.Needs.{needs}
 use native.Mathlib.Omega.{arith}
-use Rattle.frame.specs.Valid.{frame-bits-most}
+use Rattle.frame.proofs.Valid.{frame-bits-most}
 use Rattle.frame.proofs.frame_length.Statement.{statement}
 use Rattle.frame.proofs.frame_length.Tie as tie
 

@@ -1,7 +1,7 @@
 -- The first condition that holds decides.
 use borrow.Author.Needs.{needs}
 use native.Mathlib.Omega.{arith}
-use Rattle.frame.proofs.Unpacking.{HeaderRead, short-decides, header-decides, header-limits, length-decides, fill-decides, none-decides}
+use Rattle.frame.proofs.Unpacking.{HeaderRead, short-decides, header-decides, layout-header-limits, length-decides, fill-decides, none-decides}
 use Rattle.frame.proofs.layout_refusal.Statement.{statement}
 use Rattle.frame.proofs.layout_refusal.Tie as tie
 
@@ -21,7 +21,7 @@ returns-2 : tie.Need-returns-2
 returns-2 c = header-decides (read (c .before)) (c .if2 .taken)
 
 frame-length-requires : tie.Need-frame-length-requires
-frame-length-requires c κs = header-limits (read (c .before)) (c .if2 .left)
+frame-length-requires c κs = layout-header-limits (read (c .before)) (c .if2 .left)
 
 returns-3 : tie.Need-returns-3
 returns-3 c =
@@ -29,7 +29,7 @@ returns-3 c =
     length-decides (read (b .before .before)) (b .before .if2 .left) (b .frame-length .ensures) (c .if3 .taken)
 
 frame-bits-requires : tie.Need-frame-bits-requires
-frame-bits-requires c κs = header-limits (read (c .before .before .before)) (c .before .before .if2 .left)
+frame-bits-requires c κs = layout-header-limits (read (c .before .before .before)) (c .before .before .if2 .left)
 
 fill-is-zero-requires : tie.Need-fill-is-zero-requires
 fill-is-zero-requires c κs = search needs

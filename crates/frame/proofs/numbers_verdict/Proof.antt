@@ -1,6 +1,6 @@
 -- The first condition that holds decides.
 use borrow.Author.Needs.{needs}
-use Rattle.frame.proofs.Writer.{count-decides, fit-decides, numbers-fit, rows-decide}
+use Rattle.frame.proofs.Writer.{count-decides, fit-decides, numbers-sent, rows-decide}
 use Rattle.frame.proofs.numbers_verdict.Statement.{statement}
 use Rattle.frame.proofs.numbers_verdict.Tie as tie
 
@@ -23,19 +23,20 @@ returns-2 c =
     let a = n .before .args in
     fit-decides (a .h) (a .v .now) (n .count .ensures) (t .before .before .if1 .left) (t .all-fit .ensures) (c .if2 .taken)
 
-rows-verdict-requires : tie.Need-rows-verdict-requires
-rows-verdict-requires c κs =
+set-up-requires : tie.Need-set-up-requires
+set-up-requires c κs =
     let t = c .before in
     let n = t .before .before .before in
     let a = n .before .args in
-    numbers-fit (a .h) (a .v .now) (n .count .ensures) (t .before .before .if1 .left) (t .all-fit .ensures) (c .if2 .left) (n .before .pre)
+    numbers-sent (a .h) (a .v .now) (n .count .ensures) (t .before .before .if1 .left) (t .all-fit .ensures) (c .if2 .left) (n .before .pre)
 
 returns-3 : tie.Need-returns-3
 returns-3 c =
-    let t = c .before .before in
+    let e = c .before in
+    let t = e .before in
     let n = t .before .before .before in
     let a = n .before .args in
-    rows-decide (a .h) (a .v .now) (n .count .ensures) (t .before .before .if1 .left) (t .all-fit .ensures) (c .before .if2 .left) (c .rows-verdict .ensures)
+    rows-decide (a .h) (a .v .now) (n .count .ensures) (t .before .before .if1 .left) (t .all-fit .ensures) (e .if2 .left) (c .set-up .ensures .verdict)
 
 pub numbers-verdict-spec : {M : Type 1} → statement M
 numbers-verdict-spec =
@@ -46,5 +47,5 @@ numbers-verdict-spec =
     add-all-fit
     all-fit-requires
     returns-2
-    rows-verdict-requires
+    set-up-requires
     returns-3)

@@ -33,13 +33,17 @@ read-numbers-requires : tie.Need-read-numbers-requires
 read-numbers-requires c κs =
     let n = c .before in
     let h = n .before .before in
-    unpack-room (read h) (n .count .ensures) (h .before .before .before .before .args .v .now) (c .read-numbers-arg .given .0 .1)
+    let s = h .before .before .before .before in
+    unpack-room (read h) (n .count .ensures) (s .args .v .now) (s .pre)
+
+same-length : tie.Need-same-length
+same-length c = search needs
 
 returns-2 : tie.Need-returns-2
 returns-2 c =
-    let n = c .before .before in
+    let n = c .before .before .before in
     let h = n .before .before in
-    unpack-accepted (read h) (n .count .ensures) (h .before .before .before .before .args .v .now) (c .read-numbers .ensures)
+    unpack-accepted (read h) (n .count .ensures) (h .before .before .before .before .args .v .now) (c .before .read-numbers .ensures)
 
 pub unpack-spec : {M : Type 1} → statement M
 unpack-spec =
@@ -52,4 +56,5 @@ unpack-spec =
     add-read-numbers
     count-requires
     read-numbers-requires
+    same-length
     returns-2)

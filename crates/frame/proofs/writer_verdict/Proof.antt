@@ -1,6 +1,6 @@
 -- The first condition that holds decides.
 use borrow.Author.Needs.{needs}
-use Rattle.frame.proofs.Writer.{header-decides, header-limits, numbers-decide, room-decides, none-decides}
+use Rattle.frame.proofs.Writer.{header-decides, writer-limits, numbers-decide, room-decides, none-decides}
 use Rattle.frame.proofs.writer_verdict.Statement.{statement}
 use Rattle.frame.proofs.writer_verdict.Tie as tie
 
@@ -15,7 +15,7 @@ returns c =
 numbers-verdict-requires : tie.Need-numbers-verdict-requires
 numbers-verdict-requires c κs =
     let a = c .before .before .args in
-    header-limits (a .h) (a .v .now) (a .room) (c .before .header-refusal .ensures) (c .if1 .left)
+    writer-limits (a .h) (a .v .now) (a .room) (c .before .header-refusal .ensures) (c .if1 .left)
 
 returns-2 : tie.Need-returns-2
 returns-2 c =
@@ -29,7 +29,7 @@ frame-length-requires c κs =
     let d = c .before .before in
     let r = d .before .before in
     let a = r .before .args in
-    header-limits (a .h) (a .v .now) (a .room) (r .header-refusal .ensures) (d .before .if1 .left)
+    writer-limits (a .h) (a .v .now) (a .room) (r .header-refusal .ensures) (d .before .if1 .left)
 
 returns-3 : tie.Need-returns-3
 returns-3 c =

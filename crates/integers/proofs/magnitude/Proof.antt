@@ -1,5 +1,5 @@
 -- By z's sign: of a negative z, -1 - z fits and is not negative.
-use mathlib.Core.Path.{_≡_, _∙_}
+use mathlib.Core.Path.{_≡_}
 use mathlib.Core.Bool.{true}
 use native.Mathlib.Omega.{arith}
 use lib.IntN.{pos, negsuc, _-ℤ_}
@@ -7,8 +7,8 @@ use lib.Signed.{ltZ, mag}
 use mir.Syntax.{w64}
 use mir.Val.{toZ, ofZ}
 use mir.Facts.{toZ-ofZ}
-use Rattle.integers.specs.Order.{zarith}
-use Rattle.integers.proofs.Below.{one-below, one-below-fits}
+use Rattle.integers.proofs.Order.{zarith}
+use Rattle.integers.proofs.Below.{one-below, one-below-fits, one-below-read}
 use Rattle.integers.proofs.magnitude.Statement.{statement}
 use Rattle.integers.proofs.magnitude.Tie as tie
 
@@ -16,9 +16,7 @@ negative : (c : tie.Then1) → ltZ (c .before .args .z) (pos 0) ≡ true
 negative c = rw (toZ-ofZ {w = w64} (c .before .fits .z)) at (c .if1 .taken)
 
 clean : (c : tie.Then1) → toZ w64 (ofZ w64 (negsuc 0 -ℤ toZ w64 (ofZ w64 (c .before .args .z)))) ≡ pos (mag (c .before .args .z))
-clean c =
-    let z = c .before .args .z in
-    rw (toZ-ofZ {w = w64} (c .before .fits .z)) (toZ-ofZ {w = w64} (one-below-fits z (negative c) (c .before .fits .z)) ∙ one-below z (negative c) .0)
+clean c = one-below-read (c .before .args .z) (negative c) (c .before .fits .z)
 
 sub-to-unsigned : tie.Need-sub-to-unsigned
 sub-to-unsigned c = rw (toZ-ofZ {w = w64} (c .before .fits .z)) (one-below-fits (c .before .args .z) (negative c) (c .before .fits .z))

@@ -1,6 +1,6 @@
 -- A number within 127 fits an i8.
 use mathlib.Core.Path.{refl}
-use Rattle.integers.specs.Machine.{machs, machine-fits, machine-eq}
+use Rattle.integers.proofs.Machine.{machs, machine-fits, machine-eq}
 use Rattle.integers.proofs.narrow.Statement.{statement}
 use Rattle.integers.proofs.narrow.Tie as tie
 

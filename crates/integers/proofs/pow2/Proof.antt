@@ -1,4 +1,4 @@
--- `pow2` meets its contract: for n below 64 nothing is shifted out. Assumes nothing.
+-- `pow2` meets its contract: for n below 64 nothing is shifted out.
 use native.Mathlib.Nat.{mod-eq-of-lt, one-mul}
 use borrow.Author.Needs.{needs}
 use lib.Pow.{pow-lt}

@@ -1,11 +1,12 @@
--- The loop's invariant: the digits of the first i rows are put, and the buffer keeps its length. The measure is the rows left.
+-- The loop's invariant: the digits of the first i rows are put, and the buffer keeps its length. The
+-- measure is the rows left.
 use mathlib.Core.Path.{_≡_, refl, _∙_}
 use Prim.Native.Nat.{suc, _-_, _≤_}
 use native.Mathlib.Omega.{arith}
 use borrow.Author.Needs.{needs}
 use lib.ListN.{length}
 use Rattle.integers.specs.Flat.{entry}
-use Rattle.state.specs.Digits.{digits-of}
+use Rattle.state.specs.State.{digits-of}
 use Rattle.text.specs.Text.{Put}
 use Rattle.printout.proofs.Lines.{spaced, spaced-start, digit-read, next-room, end-room, spaced-next, spaced-all}
 use Rattle.printout.proofs.put_digits.Statement.{statement}

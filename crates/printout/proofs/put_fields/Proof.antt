@@ -1,4 +1,5 @@
--- The four numbers, one after the other, and the newline. Each has at most 20 digits, so there is room for the next.
+-- The four numbers, one after the other, and the newline. Each has at most 20 digits, so there is room for
+-- the next.
 use native.Mathlib.Omega.{arith}
 use borrow.Author.Needs.{needs}
 use Rattle.text.specs.Text.{line-end}

@@ -1,10 +1,11 @@
--- The loop's invariant: the first i numbers are put, and the buffer keeps its length. The measure is the numbers left.
+-- The loop's invariant: the first i numbers are put, and the buffer keeps its length. The measure is the
+-- numbers left.
 use mathlib.Core.Path.{_≡_, refl, _∙_}
 use Prim.Native.Nat.{_-_, _≤_}
 use native.Mathlib.Omega.{arith}
 use lib.ListN.{length}
 use Rattle.integers.specs.Flat.{at}
-use Rattle.evaluator.proofs.Arrays.{number-kept}
+use Rattle.integers.proofs.Machine.{i64-kept}
 use Rattle.text.specs.Text.{Put}
 use Rattle.printout.proofs.Lines.{spaced, spaced-start, next-room, end-room, spaced-next, spaced-all}
 use Rattle.printout.proofs.put_numbers.Statement.{statement}
@@ -44,7 +45,7 @@ loop-again c =
     let a = l .before .before .args in (
       omega arith,
       c .before .before .put-item .kept .0 ∙ l .loop .inv .1,
-      spaced-next (at (a .y .now)) (number-kept (at (a .y .now) (l .loop .i)) (w .put-item-arg2 .given)) (l .loop .inv .2) (c .before .before .put-item .ensures),
+      spaced-next (at (a .y .now)) (i64-kept (at (a .y .now) (l .loop .i)) (w .put-item-arg2 .given)) (l .loop .inv .2) (c .before .before .put-item .ensures),
     )
 
 put-byte-requires : tie.Need-put-byte-requires Inv-loop μ-loop

@@ -5,14 +5,14 @@ use Rattle.state.proofs.Digits.{marks-beyond}
 use Rattle.state.proofs.beyond.Statement.{statement}
 use Rattle.state.proofs.beyond.Tie as tie
 
-marks-requires : tie.Need-marks-requires
-marks-requires c κs = search needs
+rows-beyond-requires : tie.Need-rows-beyond-requires
+rows-beyond-requires c κs = search needs
 
-any-requires : tie.Need-any-requires
-any-requires c κs = search needs
+some-row-requires : tie.Need-some-row-requires
+some-row-requires c κs = search needs
 
 returns : tie.Need-returns
-returns c = c .any .ensures ∙ marks-beyond _ _ _ _ _ _ (c .before .before .pre .0) (c .before .marks .ensures)
+returns c = c .some-row .ensures ∙ marks-beyond _ _ _ _ _ _ (c .before .before .pre .0) (c .before .rows-beyond .ensures)
 
 pub beyond-spec : {M : Type 1} → statement M
-beyond-spec = tie.close (tie.spec marks-requires any-requires returns)
+beyond-spec = tie.close (tie.spec rows-beyond-requires some-row-requires returns)

@@ -1,5 +1,5 @@
 -- By the test.
-use Rattle.system.specs.Weighing.{negated-fits, above-high, above-low}
+use Rattle.system.proofs.Weighing.{negated-fits, above-high, above-low}
 use Rattle.system.proofs.above.Statement.{statement}
 use Rattle.system.proofs.above.Tie as tie
 

@@ -1,4 +1,5 @@
--- The rows before row i are none of them too heavy, and within row i the room left is the limit less the weight of the entries before j.
+-- The rows before row i are none of them too heavy, and within row i the room left is the limit less the
+-- weight of the entries before j.
 use mathlib.Core.Path.{_≡_, refl, _∙_}
 use Prim.Native.Nat.{_-_, _≤_}
 use native.Mathlib.Omega.{arith}
@@ -6,14 +7,16 @@ use mir.Syntax.{w64}
 use mir.Val.{toZ}
 use mir.Facts.{toZ-ofZ}
 use Rattle.integers.specs.Flat.{entry}
-use Rattle.integers.specs.Product.{weight}
-use Rattle.system.specs.Weighing.{Room, too-heavy, room-start, room-left, room-next, room-over}
-use Rattle.system.specs.FirstRow.{Never, never-zero, never-more, search-found, search-over}
+use Rattle.integers.specs.Sum.{weight}
+use Rattle.system.proofs.Weighing.{RoomLeft, room-start, room-left, room-next, room-over}
+use Rattle.system.specs.Inner.{too-heavy}
+use Rattle.system.specs.Rows.{Never}
+use Rattle.system.proofs.FirstRow.{never-zero, never-more, search-found, search-over}
 use Rattle.system.proofs.first_heavy.Statement.{statement}
 use Rattle.system.proofs.first_heavy.Tie as tie
 
 abbrev Inv-loop : tie.InvT-loop
-Inv-loop g n limit heavy₀ i room₀ j₀ heavy room j = (j ≤ n) × (heavy ≡ 0) × Room (toZ w64 limit) (toZ w64 room) (weight j (entry g i))
+Inv-loop g n limit heavy₀ i room₀ j₀ heavy room j = (j ≤ n) × (heavy ≡ 0) × RoomLeft (toZ w64 limit) (toZ w64 room) (weight j (entry g i))
 
 abbrev μ-loop : tie.MeasureT-loop
 μ-loop g n limit heavy₀ i room₀ j₀ heavy room j = n - j

@@ -5,8 +5,10 @@ use native.Mathlib.Omega.{arith}
 use mir.Syntax.{w64}
 use mir.Val.{toZ, ofZ}
 use mir.Facts.{toZ-ofZ}
-use Rattle.system.specs.Weighing.{too-large, above-said}
-use Rattle.system.specs.FirstRow.{Never, never-zero, never-more, search-found, search-over}
+use Rattle.system.specs.Inner.{too-large}
+use Rattle.system.proofs.Weighing.{above-said}
+use Rattle.system.specs.Rows.{Never}
+use Rattle.system.proofs.FirstRow.{never-zero, never-more, search-found, search-over}
 use Rattle.system.proofs.first_large.Statement.{statement}
 use Rattle.system.proofs.first_large.Tie as tie
 

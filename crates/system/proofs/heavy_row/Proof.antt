@@ -5,9 +5,9 @@ use lib.IntN.{pos}
 use mir.Syntax.{w64}
 use mir.Val.{toZ, ofZ}
 use mir.Facts.{toZ-ofZ}
-use Rattle.integers.specs.Order.{zarith}
-use Rattle.job.specs.Rows.{largest-light}
-use Rattle.system.specs.Verdict.{heavy-found}
+use Rattle.integers.proofs.Order.{zarith}
+use Rattle.system.specs.Inner.{largest-light}
+use Rattle.system.proofs.Verdicts.{heavy-found}
 use Rattle.system.proofs.heavy_row.Statement.{statement}
 use Rattle.system.proofs.heavy_row.Tie as tie
 

@@ -5,9 +5,9 @@ use lib.IntN.{pos}
 use mir.Syntax.{w64}
 use mir.Val.{toZ, ofZ}
 use mir.Facts.{toZ-ofZ}
-use Rattle.integers.specs.Order.{zarith}
-use Rattle.job.specs.Rows.{residual-most}
-use Rattle.system.specs.Verdict.{residual-found}
+use Rattle.integers.proofs.Order.{zarith}
+use Rattle.system.specs.Inner.{residual-most}
+use Rattle.system.proofs.Verdicts.{residual-found}
 use Rattle.system.proofs.large_residual.Statement.{statement}
 use Rattle.system.proofs.large_residual.Tie as tie
 

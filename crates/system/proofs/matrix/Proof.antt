@@ -1,9 +1,10 @@
 -- By the kind.
 use mathlib.Core.Path.{_≡_}
 use native.Mathlib.Omega.{arith}
+use lib.Pow.{pow-mono}
 use borrow.Author.Needs.{needs}
 use Rattle.job.specs.Header.{unit}
-use Rattle.system.specs.Numbers.{system-kind, argument-read, polynomial-is, rational-is, system-is, unit-small}
+use Rattle.system.proofs.Numbers.{system-kind, argument-read, polynomial-is, rational-is, system-is}
 use Rattle.system.proofs.matrix.Statement.{statement}
 use Rattle.system.proofs.matrix.Tie as tie
 
@@ -29,11 +30,11 @@ returns-2 c =
     let st = c .before .before .before .before .before in
     rational-is (st .args .h .kind) (st .args .h .n) (unit (st .args .h)) (st .args .v .now) _ (c .before .if2 .taken) (c .rational-matrix .ensures)
 
-unit-requires : tie.Need-unit-requires
-unit-requires c κs = search needs
+pow2-requires : tie.Need-pow2-requires
+pow2-requires c κs = omega (arith, c .before .before .before .before .pre .0 .fraction-most)
 
 -- the third kind is all that is left
-third : (c : tie.After-unit) → c .before .before .before .before .before .args .h .kind ≡ 2
+third : (c : tie.After-pow2) → c .before .before .before .before .before .args .h .kind ≡ 2
 third c =
     let st = c .before .before .before .before .before in
     system-kind (st .args .h .kind) (st .pre .0 .kind-most) (c .before .before .before .if1 .left) (c .before .if2 .left)
@@ -41,12 +42,12 @@ third c =
 system-matrix-requires : tie.Need-system-matrix-requires
 system-matrix-requires c κs =
     let st = c .before .before .before .before .before in
-    (st .pre .0 .order-most, unit-small (st .args .h .f) (c .unit .result) (st .pre .0 .fraction-most) (c .unit .ensures), rw (third c) at (st .pre .1))
+    (st .pre .0 .order-most, rw (c .pow2 .ensures) (pow-mono {j = 40} (st .pre .0 .fraction-most)), rw (third c) at (st .pre .1))
 
 returns-3 : tie.Need-returns-3
 returns-3 c =
     let st = c .before .before .before .before .before .before in
-    system-is (st .args .h .kind) (st .args .h .n) (unit (st .args .h)) (st .args .v .now) _ (c .before .unit .result) (third (c .before)) (c .before .unit .ensures) (c .system-matrix .ensures)
+    system-is (st .args .h .kind) (st .args .h .n) (unit (st .args .h)) (st .args .v .now) _ (c .before .pow2 .result) (third (c .before)) (c .before .pow2 .ensures) (c .system-matrix .ensures)
 
 pub matrix-spec : {M : Type 1} → statement M
 matrix-spec =
@@ -57,6 +58,6 @@ matrix-spec =
     returns
     rational-matrix-requires
     returns-2
-    unit-requires
+    pow2-requires
     system-matrix-requires
     returns-3)

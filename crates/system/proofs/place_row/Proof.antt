@@ -2,10 +2,11 @@
 use mathlib.Core.Path.{_≡_, sym}
 use Prim.Native.Nat.{_+_, _*_, _-_, _≤_, _<_}
 use native.Mathlib.Omega.{arith}
-use Rattle.integers.specs.Flat.{stores, stores-zero}
-use Rattle.job.specs.System.{system-entry}
-use Rattle.system.specs.Numbers.{number-within, entry-read, system-place, place-small}
-use Rattle.system.specs.Setup.{stores-more}
+use Rattle.integers.specs.Flat.{stores}
+use Rattle.integers.proofs.Stores.{stores-zero}
+use Rattle.system.specs.System.{system-entry}
+use Rattle.system.proofs.Numbers.{number-within, entry-read, system-place, place-in-numbers}
+use Rattle.system.proofs.Arrays.{stores-more}
 use Rattle.system.proofs.place_row.Statement.{statement}
 use Rattle.system.proofs.place_row.Tie as tie
 
@@ -19,7 +20,7 @@ abbrev μ-loop : tie.MeasureT-loop
 small : (c : tie.In-loop Inv-loop μ-loop) → c .before .before .args .i * (c .before .before .args .n + 1) + c .before .loop .j < 272
 small c =
     let st = c .before .before in
-    place-small (st .args .n) (st .args .i) (c .before .loop .j) (st .pre .0) (omega arith) (st .pre .1)
+    place-in-numbers (st .args .n) (st .args .i) (c .before .loop .j) (st .pre .0) (omega arith) (st .pre .1)
 
 inside : (c : tie.In-loop Inv-loop μ-loop) → c .before .before .args .i * (c .before .before .args .n + 1) + c .before .loop .j < c .before .before .args .n * (c .before .before .args .n + 1)
 inside c =

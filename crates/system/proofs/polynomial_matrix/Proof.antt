@@ -7,8 +7,10 @@ use lib.ListN.{replicate}
 use mir.Syntax.{w64}
 use mir.Val.{toZ, ofZ}
 use mir.Facts.{toZ-ofZ}
-use Rattle.integers.specs.Flat.{stores, stores-zero}
-use Rattle.system.specs.Setup.{stores-more, argument-place, argument-filled}
+use Rattle.integers.specs.Flat.{stores}
+use Rattle.integers.proofs.Stores.{stores-zero}
+use Rattle.system.proofs.Arrays.{stores-more}
+use Rattle.system.proofs.Setup.{argument-place, argument-filled}
 use Rattle.system.proofs.polynomial_matrix.Statement.{statement}
 use Rattle.system.proofs.polynomial_matrix.Tie as tie
 

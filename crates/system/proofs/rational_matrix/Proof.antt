@@ -3,12 +3,14 @@ use mathlib.Core.Path.{_≡_, sym}
 use Prim.Native.Nat.{_+_, _-_, _≤_, _^_}
 use native.Mathlib.Omega.{arith}
 use lib.IntN.{negℤ}
-use Rattle.integers.specs.Absolute.{Within}
-use Rattle.integers.specs.Machine.{machs, machine-fits}
-use Rattle.integers.specs.Flat.{stores, stores-zero}
-use Rattle.job.specs.System.{argument, denominator}
-use Rattle.system.specs.Numbers.{argument-read, negated-is}
-use Rattle.system.specs.Setup.{stores-more, denominator-place, denominator-placed}
+use Rattle.integers.specs.Within.{Within}
+use Rattle.integers.proofs.Machine.{machs, machine-fits}
+use Rattle.integers.specs.Flat.{stores}
+use Rattle.integers.proofs.Stores.{stores-zero}
+use Rattle.system.specs.System.{argument, denominator}
+use Rattle.system.proofs.Numbers.{argument-read, negated-is}
+use Rattle.system.proofs.Arrays.{stores-more}
+use Rattle.system.proofs.Setup.{denominator-place, denominator-placed}
 use Rattle.system.proofs.rational_matrix.Statement.{statement}
 use Rattle.system.proofs.rational_matrix.Tie as tie
 

@@ -1,7 +1,7 @@
 -- By the kind. The places are small.
 use native.Mathlib.Omega.{arith}
 use borrow.Author.Needs.{needs}
-use Rattle.system.specs.Numbers.{right-place-curve, right-place-system, place-small}
+use Rattle.system.proofs.Numbers.{right-place-curve, right-place-system, place-in-numbers}
 use Rattle.system.proofs.right_place.Statement.{statement}
 use Rattle.system.proofs.right_place.Tie as tie
 
@@ -12,10 +12,10 @@ add-result-2 : tie.Need-add-result-2
 add-result-2 c = search needs
 
 mul-result : tie.Need-mul-result
-mul-result c = omega (arith, place-small (c .before .args .n) (c .before .args .i) (c .before .args .n) (c .before .pre .1) (omega arith) (c .before .pre .2))
+mul-result c = omega (arith, place-in-numbers (c .before .args .n) (c .before .args .i) (c .before .args .n) (c .before .pre .1) (omega arith) (c .before .pre .2))
 
 add-result-3 : tie.Need-add-result-3
-add-result-3 c = omega (arith, place-small (c .before .args .n) (c .before .args .i) (c .before .args .n) (c .before .pre .1) (omega arith) (c .before .pre .2))
+add-result-3 c = omega (arith, place-in-numbers (c .before .args .n) (c .before .args .i) (c .before .args .n) (c .before .pre .1) (omega arith) (c .before .pre .2))
 
 returns : tie.Need-returns
 returns c = right-place-curve _ (c .before .args .n) _ (c .if1 .taken)

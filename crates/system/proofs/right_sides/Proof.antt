@@ -4,13 +4,14 @@ use Prim.Native.Nat.{_-_, _≤_, _<_}
 use native.Mathlib.Omega.{arith}
 use lib.IntN.{pos}
 use lib.ListN.{replicate}
-use Rattle.integers.specs.Flat.{stores, stores-zero}
+use Rattle.integers.specs.Flat.{stores}
+use Rattle.integers.proofs.Stores.{stores-zero}
 use Rattle.job.specs.Header.{count}
 use Rattle.job.specs.Kind.{kind-of}
 use Rattle.job.proofs.Limits.{count-most}
-use Rattle.job.specs.System.{right-side, right-side-of}
-use Rattle.system.specs.Numbers.{right-read, right-place-most}
-use Rattle.system.specs.Setup.{stores-more, vector-filled}
+use Rattle.system.specs.System.{right-side, right-side-of}
+use Rattle.system.proofs.Numbers.{right-read, right-place-most}
+use Rattle.system.proofs.Arrays.{stores-more, vector-stored}
 use Rattle.system.proofs.right_sides.Statement.{statement}
 use Rattle.system.proofs.right_sides.Tie as tie
 
@@ -66,7 +67,7 @@ returns c =
     let st = c .before .before in
     let l = c .before .loop in
     let e : l .i ≡ st .args .h .n = omega arith in
-    (rw e at (l .inv .1)) ∙ vector-filled (st .args .h .n) _ (st .pre .0 .order-most)
+    (rw e at (l .inv .1)) ∙ vector-stored (st .args .h .n) _ (st .pre .0 .order-most)
 
 pub right-sides-spec : {M : Type 1} → statement M
 right-sides-spec =

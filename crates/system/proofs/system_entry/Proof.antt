@@ -3,7 +3,7 @@ use Prim.Native.Nat.{_^_}
 use native.Mathlib.Omega.{arith}
 use borrow.Author.Needs.{needs}
 use borrow.Author.Tests.{eq-eqb, ne-eqb}
-use Rattle.integers.specs.Machine.{machs, machine-eq, machine-fits, known}
+use Rattle.integers.proofs.Machine.{machs, machine-eq, machine-fits, known}
 use Rattle.system.proofs.system_entry.Statement.{statement}
 use Rattle.system.proofs.system_entry.Tie as tie
 

@@ -3,8 +3,8 @@ use mathlib.Core.Path.{_≡_, _∙_}
 use Prim.Native.Nat.{_-_, _≤_}
 use native.Mathlib.Omega.{arith}
 use Rattle.integers.specs.Flat.{flat-matrix}
-use Rattle.job.specs.System.{system-entry}
-use Rattle.system.specs.Setup.{rows-below, rows-none, rows-placed, rows-all}
+use Rattle.system.specs.System.{system-entry}
+use Rattle.system.proofs.Setup.{rows-below, rows-none, rows-placed, rows-all}
 use Rattle.system.proofs.system_matrix.Statement.{statement}
 use Rattle.system.proofs.system_matrix.Tie as tie
 

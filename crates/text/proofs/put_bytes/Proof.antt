@@ -1,4 +1,5 @@
--- The loop's invariant: the first i bytes of s are put, and the buffer keeps its length. The measure is what is left of s.
+-- The loop's invariant: the first i bytes of s are put, and the buffer keeps its length. The measure is what
+-- is left of s.
 use mathlib.Core.Path.{_≡_, refl, _∙_}
 use Prim.Native.Nat.{_+_, _-_, _≤_}
 use native.Mathlib.Omega.{arith}

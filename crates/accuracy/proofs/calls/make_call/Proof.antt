@@ -8,8 +8,8 @@ use Rattle.accuracy.proofs.Parts.{room-within, call-advance, call-readi
 use Rattle.accuracy.proofs.calls.make_call.Statement.{statement}
 use Rattle.accuracy.proofs.calls.make_call.Tie as tie
 
-within : (c : tie.After-least) → c .least .result ≤ length (c .before .before .args .list .now)
-within c = let a = c .before .before .args in room-within (a .value) (c .least .result) (a .list .now) (c .least .ensures)
+within : (c : tie.After-smaller) → c .smaller .result ≤ length (c .before .before .args .list .now)
+within c = let a = c .before .before .args in room-within (a .value) (c .smaller .result) (a .list .now) (c .smaller .ensures)
 
 advance-requires : tie.Need-advance-requires
 advance-requires c κs = search needs
@@ -19,14 +19,14 @@ returns c =
     let a = c .before .before .before .args in
     call-advance (a .s) (a .value) (a .list .now) (a .kind) (c .before .advance .result) (c .before .before .if1 .taken) (c .before .advance .ensures)
 
-least-requires : tie.Need-least-requires
-least-requires c κs = search needs
+smaller-requires : tie.Need-smaller-requires
+smaller-requires c κs = search needs
 
 slice-relend-prefix-readings : tie.Need-slice-relend-prefix-readings
 slice-relend-prefix-readings c = within c
 
 slice-aggregate-readings : tie.Need-slice-aggregate-readings
-slice-aggregate-readings c = sym (length-take-le (c .before .least .result) (c .before .before .before .args .list .now) (within (c .before)))
+slice-aggregate-readings c = sym (length-take-le (c .before .smaller .result) (c .before .before .before .args .list .now) (within (c .before)))
 
 readings-requires : tie.Need-readings-requires
 readings-requires c κs = search needs
@@ -38,7 +38,7 @@ returns-2 : tie.Need-returns-2
 returns-2 c =
     let l = c .before .before .before in
     let a = l .before .before .args in
-    call-readings (a .s) (a .value) (a .list .now) (a .kind) (l .least .result) _ (l .before .if1 .left) (l .least .ensures) (c .before .readings .ensures .1)
+    call-readings (a .s) (a .value) (a .list .now) (a .kind) (l .smaller .result) _ (l .before .if1 .left) (l .smaller .ensures) (c .before .readings .ensures .1)
 
 pub make-call-spec : {M : Type 1} → statement M
 make-call-spec =
@@ -46,7 +46,7 @@ make-call-spec =
     (tie.spec
     advance-requires
     returns
-    least-requires
+    smaller-requires
     slice-relend-prefix-readings
     slice-aggregate-readings
     readings-requires

@@ -2,12 +2,12 @@
 use mathlib.Core.Path.{refl}
 use mathlib.Core.List.{flatMap}
 use Rattle.cases.specs.Table.{table}
-use Rattle.cases.specs.Words.{table-words}
+use Rattle.cases.specs.Words.{table-words, table-lines, lines}
 use Rattle.cases.proofs.table.words.Statement.{statement}
 use Rattle.cases.proofs.table.words.Tie as tie
 
 returns : tie.Need-returns
-unfolding table-words flatMap table
+unfolding table-lines lines table-words flatMap table
 returns c = refl
 
 pub words-spec : {M : Type 1} → statement M

@@ -1,0 +1,5 @@
+pub mod Horner
+pub mod Differences
+pub mod Rows
+pub mod Value
+pub mod Examples

@@ -1,0 +1,65 @@
+-- What the calls that load a frame come to, over the variables of the code.
+use mathlib.Core.Path.{_≡_, ap, _∙_}
+use mathlib.Core.List.{List}
+use Prim.Native.Nat.{ℕ, _<_, _≤_}
+use native.Mathlib.Omega.{arith}
+use borrow.Author.Tests.{ne-eqb, eq-eqb}
+use lib.ListN.{length}
+use Rattle.job.specs.Header.{count}
+use Rattle.frame.specs.Frame.{frame-refusal}
+use Rattle.header.specs.Header.{header-of}
+use Rattle.frame.proofs.Valid.{accepted-frame}
+use Rattle.state.specs.State.{fresh}
+use Rattle.evaluator.specs.Evaluator.{loaded, advanced}
+use Rattle.evaluator.specs.declared.Loaded.{Loaded}
+use Rattle.evaluator.specs.declared.Advanced.{Advanced}
+use Rattle.evaluator.proofs.Theorems.{accepted-load}
+use Rattle.trace.specs.Trace.{record-answer, trace-writer-answer, trace-writer-buffer}
+use Rattle.trace.specs.declared.Recorded.{Recorded}
+use Rattle.trace.specs.declared.TraceWritten.{TraceWritten}
+use Rattle.emethod_c.specs.Foreign.{answer-of, check-answer, job-record, job-trace-answer, job-trace-buffer}
+
+module _ (frame : List ℕ) (l : Loaded) (e : l ≡ loaded frame) where
+  -- of a refused frame
+  module _ (h : 0 < l .refusal) where
+    some : loaded frame .refusal ≡ 0 → ⊥
+    some z = let f : l .refusal ≡ 0 = ap (λ (x : Loaded). x .refusal) e ∙ z in omega arith
+
+    pub check-refused : (r : ℕ) → r ≡ answer-of (l .refusal) (l .row) 0 → r ≡ check-answer frame
+    unfolding check-answer
+    check-refused r f = f ∙ rw (e, ne-eqb (loaded frame .refusal) 0 some)
+
+    pub job-trace-refused : (budget r : ℕ) (out : List ℕ) → r ≡ answer-of (l .refusal) (l .row) 0
+        → (r ≡ job-trace-answer frame budget (length out)) × (out ≡ job-trace-buffer frame budget out)
+    unfolding job-trace-answer job-trace-buffer
+    job-trace-refused budget r out f = let q = ne-eqb (loaded frame .refusal) 0 some in (f ∙ rw (e, q), rw q)
+
+  -- of an accepted one
+  module _ (h : l .refusal ≤ 0) where
+    none : loaded frame .refusal ≡ 0
+    none = let f : l .refusal ≡ loaded frame .refusal = ap (λ (x : Loaded). x .refusal) e in omega arith
+
+    header-is : l .state .header ≡ header-of frame
+    unfolding fresh
+    header-is = ap (λ (x : Loaded). x .state .header) e ∙ ap (λ s. s .header) (accepted-load frame none)
+
+    pub order-most : l .state .header .n ≤ 16
+    unfolding loaded
+    order-most = rw header-is (accepted-frame frame .0 none .valid .limits .order-most)
+
+    pub check-accepted : (c r : ℕ) → c ≡ count (l .state .header) → r ≡ answer-of 0 0 c → r ≡ check-answer frame
+    unfolding check-answer loaded
+    check-accepted c r f g = let z : frame-refusal frame ≡ 0 = none in g ∙ rw (f, header-is, z)
+
+    pub job-trace-accepted : (budget : ℕ) (a : Advanced) (c : Recorded) (w : TraceWritten) (r : ℕ) (out left : List ℕ)
+        → a ≡ advanced (l .state) budget → c ≡ record-answer (a .state) → w ≡ trace-writer-answer (c .trace) (length out) → left ≡ trace-writer-buffer (c .trace) out
+        → r ≡ answer-of (w .refusal) 0 (w .length)
+        → (r ≡ job-trace-answer frame budget (length out)) × (left ≡ job-trace-buffer frame budget out)
+    unfolding job-trace-answer job-trace-buffer job-record
+    job-trace-accepted budget a c w r out left ea ec ew eb er =
+        let q = eq-eqb (loaded frame .refusal) 0 none in
+        let t : c .trace ≡ record-answer (advanced (loaded frame .state) budget .state) .trace =
+        ap (λ (x : Recorded). x .trace) ec ∙ ap (λ (x : Advanced). record-answer (x .state) .trace) ea
+        ∙ ap (λ (x : Loaded). record-answer (advanced (x .state) budget .state) .trace) e
+        in
+        (er ∙ rw (ew, t, q), eb ∙ rw (t, q))

@@ -1,0 +1,49 @@
+-- What the contracts of inner functions cite; a reader of the promises can skip it.
+use mathlib.Core.Path.{_≡_}
+use mathlib.Core.Bool.{cond}
+use mathlib.Core.List.{List, _++_}
+use Prim.Native.Nat.{ℕ}
+use lib.Dec.{eqb}
+use lib.IntN.{ℤ}
+use lib.ListN.{drop}
+use Rattle.integers.specs.Flat.{flat-vector, flat-matrix}
+use Rattle.job.specs.Header.{count, zero-header}
+use Rattle.job.specs.Refusal.{Check, first-refusal}
+use Rattle.system.specs.System.{matrix-of, right-side-of}
+use Rattle.job.specs.declared.Header.{Header}
+use Rattle.job.specs.declared.Verdict.{Verdict}
+use Rattle.header.specs.Header.{header-of}
+use Rattle.frame.specs.declared.FrameRead.{FrameRead}
+use Rattle.frame.specs.declared.Job.{Job}
+use Rattle.frame.specs.Frame.{frame-numbers, layout-checks, number-checks, frame-row}
+
+-- the first refusal of the checks, of a job with the header h and the numbers v, and its row
+unfoldable pub checks-verdict : List Check → Header → List ℤ → Verdict
+checks-verdict cs h v = record { refusal = first-refusal cs; row = frame-row (first-refusal cs) h v }
+
+-- the first of 1 to 7, 0 where there is none
+unfoldable pub layout-refusal : List ℕ → ℕ
+layout-refusal s = first-refusal (layout-checks s)
+
+-- the answer of a refused reader: the number, the row given with it, and a header of zeros
+abbrev pub refused-answer : ℕ → ℕ → FrameRead
+refused-answer c row = record { refusal = c; row = row; header = zero-header }
+
+-- what `unpack` answers and leaves: the numbers in the first words of v; with a refusal all words stay
+unfoldable pub unpack-answer : List ℕ → FrameRead
+unpack-answer s =
+    record {
+      refusal = layout-refusal s;
+      row = 0;
+      header = cond (eqb (layout-refusal s) 0) (header-of s) zero-header;
+    }
+
+unfoldable pub unpacked : List ℕ → List ℤ → List ℤ
+unpacked s v = cond (eqb (layout-refusal s) 0) (frame-numbers s ++ drop (count (header-of s)) v) v
+
+-- what `set_up` makes of a header and its numbers: the system, with the verdict on it
+pub record SetUp (h : Header) (v : List ℤ) (j : Job) : Type 0 where
+  pub verdict : record { refusal = j .refusal; row = j .row } ≡ checks-verdict (number-checks h v) h v
+  pub header : j .header ≡ h
+  pub matrix : j .g ≡ flat-matrix (h .n) (matrix-of h v)
+  pub right-sides : j .z ≡ flat-vector (h .n) (right-side-of h v)

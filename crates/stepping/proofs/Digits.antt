@@ -1,0 +1,25 @@
+-- The digits of a step, copied out of the array of all steps. Cited by the proofs of `last_digits` and
+-- `store_digits`.
+use mathlib.Core.Path.{_≡_, refl}
+use mathlib.Core.Bool.{Bool, true, false, cond}
+use mathlib.Core.List.{List}
+use Prim.Native.Nat.{ℕ, zero, suc, _+_, _*_, _-_}
+use native.Mathlib.Omega.{arith}
+use lib.IntN.{ℤ, pos}
+use lib.ListN.{replicate}
+use Rattle.integers.specs.Flat.{at, list-from, flat-vector}
+use Rattle.state.specs.State.{digits-of}
+
+-- before the first step
+zero-either-way : (b : Bool) → cond b (pos 0) (pos 0) ≡ pos 0
+zero-either-way true = refl
+zero-either-way false = refl
+
+pub first-digits : (ds : List ℤ) (n k : ℕ) → k ≡ 0 → replicate 16 (pos 0) ≡ flat-vector n (digits-of ds k)
+unfolding list-from
+first-digits ds n k e = rw e (simp zero-either-way)
+
+-- after it
+pub step-digit : (ds : List ℤ) (k i : ℕ) → (k ≡ 0 → ⊥) → at ds (16 * (k - 1) + i) ≡ digits-of ds k i
+step-digit ds zero i h = absurd (h refl)
+step-digit ds (suc k) i h = let e : suc k - 1 ≡ k = omega arith in rw e

@@ -1,0 +1,13 @@
+pub mod Chosen
+pub mod Turn
+pub mod RowSum
+pub mod Spans
+pub mod Table
+pub mod Limits
+pub mod Stepped
+pub mod Steps
+pub mod Follow
+pub mod Kept
+pub mod Digits
+pub mod Stepping
+pub mod Example

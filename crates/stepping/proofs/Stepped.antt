@@ -1,0 +1,144 @@
+-- One step on lists: which row holds what, and that the limits hold again.
+-- Cited by the proofs of the functions that fill an array, and by the crates that make several steps.
+use mathlib.Core.Path.{_≡_, refl, sym, subst, _∙_}
+use mathlib.Core.List.{List}
+use mathlib.Core.Logic.{_⊎_, inl, inr}
+use Prim.Native.Nat.{ℕ, zero, suc, _+_, _*_, _<_, _≤_}
+use native.Mathlib.Numerals.{add-one}
+use native.Mathlib.Omega.{arith}
+use lib.IntN.{ℤ, pos, natAbs}
+use lib.ListN.{length, set, replicate, getD-replicate, List·getD-eq-default}
+use lib.Seq.{ext-getD}
+use Rattle.integers.proofs.Maximum.{le-or-lt}
+use Rattle.recurrence.specs.Selection.{select}
+use Rattle.recurrence.proofs.Selection.{select-selects}
+use Rattle.recurrence.specs.Recurrence.{shifted, next-digit, next-residual}
+use Rattle.recurrence.proofs.Theorems.{bounds-kept-next}
+use Rattle.integers.specs.Flat.{at, entry, stores}
+use Rattle.integers.proofs.Stores.{stores-zero, stores-suc, length-stores, stores-other, stores-at}
+use Rattle.job.specs.Rules.{bound-over, bound-under}
+use Rattle.stepping.specs.Steps.{filled, stepped-digits, stepped-residuals}
+use Rattle.stepping.specs.Inner.{digit-from, residual-from, Vector, row-dot, Summed}
+use Rattle.stepping.proofs.Limits.{KeepsLimits}
+
+-- ---- a list filled in the rows below n
+
+module _ (f : ℕ → ℤ) (v : List ℤ) where
+  pub filled-zero : filled f v 0 ≡ v
+  filled-zero = stores-zero v (λ i. i) f
+
+  -- a store in the next row
+  pub filled-next : (i : ℕ) (l : List ℤ) (x : ℤ) → l ≡ filled f v i → x ≡ f i → set l i x ≡ filled f v (i + 1)
+  filled-next i l x e h = rw (add-one, e, h) (sym (stores-suc v (λ i. i) f i))
+
+  pub length-filled : (n : ℕ) → length (filled f v n) ≡ length v
+  length-filled n = length-stores v (λ i. i) f n
+
+  -- the rows from n on keep their values
+  pub filled-past : (n i : ℕ) → n ≤ i → at (filled f v n) i ≡ at v i
+  filled-past n i h = stores-other v (λ i. i) f n i (λ t l e. omega arith)
+
+  -- the rows below n hold f's values
+  pub filled-row : (n i : ℕ) → i < n → i < length v → at (filled f v n) i ≡ f i
+  filled-row n i h l = stores-at v (λ i. i) f n i h l (λ t a b e. omega arith)
+
+  -- only f's values in the rows below n count
+  pub filled-ext : (h : ℕ → ℤ) (n : ℕ) → ((i : ℕ) → i < n → f i ≡ h i) → filled f v n ≡ filled h v n
+  unfolding stores
+  filled-ext h zero e = refl
+  filled-ext h (suc n) e = rw (filled-ext h n (λ i l. e i (omega arith)), e n (omega arith)) refl
+
+  -- what holds of f's values and of 0 holds of every row below n, whatever the length
+  pub filled-each : (Q : ℤ → Type 0) (n : ℕ) → Q (pos 0) → ((i : ℕ) → i < n → Q (f i)) → (i : ℕ) → i < n → Q (at (filled f v n) i)
+  filled-each Q n z h i l = by-case (le-or-lt (length v) i)
+    where
+      by-case : (length v ≤ i) ⊎ (i < length v) → Q (at (filled f v n) i)
+      by-case (inl m) = subst Q (sym (List·getD-eq-default (filled f v n) (pos 0) (omega (arith, length-filled n)))) z
+      by-case (inr m) = subst Q (sym (filled-row n i l m)) (h i l)
+
+-- ---- vectors of n rows
+
+pub at-zeros : (i : ℕ) → at (replicate 16 (pos 0)) i ≡ pos 0
+at-zeros i = by-case (le-or-lt 16 i)
+  where
+    by-case : (16 ≤ i) ⊎ (i < 16) → at (replicate 16 (pos 0)) i ≡ pos 0
+    by-case (inl m) = List·getD-eq-default (replicate 16 (pos 0)) (pos 0) m
+    by-case (inr m) = getD-replicate 16 i (pos 0) (pos 0) m
+
+pub vector-zeros : (n : ℕ) → Vector n (replicate 16 (pos 0))
+vector-zeros n = record { size = refl; past = λ i l. at-zeros i }
+
+pub filled-is-vector : (f : ℕ → ℤ) {n : ℕ} {v : List ℤ} → Vector n v → Vector n (filled f v n)
+filled-is-vector f {n} {v} h = record { size = length-filled f v n ∙ h .size; past = λ i l. filled-past f v n i l ∙ h .past i l }
+
+-- a vector of n rows filled is the vector of zeros filled
+pub filled-vector : (f : ℕ → ℤ) {n : ℕ} {v : List ℤ} → Vector n v → filled f v n ≡ filled f (replicate 16 (pos 0)) n
+filled-vector f {n} {v} h =
+    ext-getD (pos 0) (filled f v n) (filled f (replicate 16 (pos 0)) n) (length-filled f v n ∙ h .size ∙ sym (length-filled f (replicate 16 (pos 0)) n))
+    (λ i l. same i (omega (arith, length-filled f v n, h .size)) (le-or-lt n i))
+  where
+    same : (i : ℕ) → i < 16 → (n ≤ i) ⊎ (i < n) → at (filled f v n) i ≡ at (filled f (replicate 16 (pos 0)) n) i
+    same i l (inl m) = filled-past f v n i m ∙ h .past i m ∙ sym (filled-past f (replicate 16 (pos 0)) n i m ∙ at-zeros i)
+    same i l (inr m) = filled-row f v n i m (omega (arith, h .size)) ∙ sym (filled-row f (replicate 16 (pos 0)) n i m l)
+
+-- ---- a step
+
+module _ (n r p u : ℕ) (g z d : List ℤ) where
+  pub length-stepped-digits : length (stepped-digits n r p u g z d) ≡ 16
+  unfolding stepped-digits
+  length-stepped-digits = length-filled (next-digit n r (select p u) (entry g) (at z) (at d)) (replicate 16 (pos 0)) n
+
+  pub length-stepped-residuals : length (stepped-residuals n r p u g z d) ≡ length z
+  unfolding stepped-residuals
+  length-stepped-residuals = length-filled (next-residual n r u (select p u) (entry g) (at z) (at d)) z n
+
+  -- in the rows below n
+  pub stepped-digit : (i : ℕ) → i < n → i < 16 → at (stepped-digits n r p u g z d) i ≡ next-digit n r (select p u) (entry g) (at z) (at d) i
+  unfolding stepped-digits
+  stepped-digit i l h = filled-row (next-digit n r (select p u) (entry g) (at z) (at d)) (replicate 16 (pos 0)) n i l h
+
+  pub stepped-residual : (i : ℕ) → i < n → i < length z → at (stepped-residuals n r p u g z d) i ≡ next-residual n r u (select p u) (entry g) (at z) (at d) i
+  unfolding stepped-residuals
+  stepped-residual i l h = filled-row (next-residual n r u (select p u) (entry g) (at z) (at d)) z n i l h
+
+  -- past them
+  pub stepped-digit-past : (i : ℕ) → n ≤ i → at (stepped-digits n r p u g z d) i ≡ pos 0
+  unfolding stepped-digits
+  stepped-digit-past i h = filled-is-vector (next-digit n r (select p u) (entry g) (at z) (at d)) (vector-zeros n) .past i h
+
+  pub stepped-residual-past : (i : ℕ) → n ≤ i → at (stepped-residuals n r p u g z d) i ≡ at z i
+  unfolding stepped-residuals
+  stepped-residual-past i h = filled-past (next-residual n r u (select p u) (entry g) (at z) (at d)) z n i h
+
+-- the rows filled with their sums
+pub filled-summed : {n : ℕ} {g d s : List ℤ} (v : List ℤ) → length v ≡ 16 → n ≤ 16 → s ≡ filled (row-dot n g d) v n → Summed n g d s
+filled-summed {n} {g} {d} {s} v size order e =
+    record { rows = λ i l. rw e (filled-row (row-dot n g d) v n i l (omega (arith, size))) }
+
+-- chosen from the rows' sums, digits and residuals are those of the step
+module _ {n : ℕ} {g d s : List ℤ} (sums : Summed n g d s) (r p u : ℕ) (z : List ℤ) where
+  pub filled-stepped : {v : List ℤ} → Vector n v → filled (digit-from r p u z s) v n ≡ stepped-digits n r p u g z d
+  unfolding stepped-digits next-digit shifted
+  filled-stepped h = filled-vector (digit-from r p u z s) h ∙ filled-ext _ _ _ n (λ i l. rw (sums .rows i l) refl)
+
+  pub filled-left : filled (residual-from r p u z s) z n ≡ stepped-residuals n r p u g z d
+  unfolding stepped-residuals next-residual next-digit shifted
+  filled-left = filled-ext _ _ _ n (λ i l. rw (sums .rows i l) refl)
+
+-- a step leaves what can make the next one; z′ and d′ are what it gave
+pub keeps-limits-next : {n r p u : ℕ} {g z d z′ d′ : List ℤ} → 0 < u → KeepsLimits n r p u g z d →
+    z′ ≡ stepped-residuals n r p u g z d → d′ ≡ stepped-digits n r p u g z d → KeepsLimits n r p u g z′ d′
+unfolding stepped-residuals stepped-digits
+keeps-limits-next {n} {r} {p} {u} {g} {z} {d} hu h ez ed =
+    let k = bounds-kept-next (select-selects p u hu) (h .light) (h .within) in
+    rw (ez, ed)
+    (record {
+      order = h .order;
+      radix = h .radix;
+      largest = h .largest;
+      light = h .light;
+      within = record {
+        z-small = filled-each (next-residual n r u (select p u) (entry g) (at z) (at d)) z (λ x. bound-under * natAbs x ≤ bound-over * u) n (omega arith) (k .z-small);
+        d-small = filled-each (next-digit n r (select p u) (entry g) (at z) (at d)) (replicate 16 (pos 0)) (λ x. natAbs x ≤ p) n (omega arith) (k .d-small);
+      };
+    })

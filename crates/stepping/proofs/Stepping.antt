@@ -1,0 +1,221 @@
+-- One step, and a loop over steps: what a step's calls ask and leave, the arrays after j steps of a state,
+-- and one turn of the loop. Cited by the proofs of `step_by_rows`, `step_by_columns`, `run_by_rows`,
+-- `run_by_columns` and `advance`.
+use mathlib.Core.Path.{_≡_, refl, sym, _∙_}
+use mathlib.Core.List.{List}
+use mathlib.Core.Logic.{_⊎_, inl, inr}
+use mathlib.Core.Bool.{Bool, true, cond}
+use Prim.Native.Nat.{ℕ, zero, suc, _+_, _*_, _<_, _≤_, _^_}
+use native.Mathlib.Numerals.{add-one}
+use native.Mathlib.Omega.{arith}
+use borrow.Author.Tests.{le-ltb}
+use lib.Dec.{ltb}
+use lib.IntN.{ℤ, pos}
+use lib.ListN.{length, replicate, List·getD-eq-default}
+use lib.Pow.{pow-pos}
+use lib.Seq.{ext-getD}
+use Rattle.integers.specs.Flat.{at, flat-vector}
+use Rattle.integers.proofs.Flat.{at-flat-vector, length-list-from, getD-list-from}
+use Rattle.integers.proofs.Stores.{length-stores}
+use Rattle.integers.proofs.Maximum.{le-or-lt}
+use Rattle.job.specs.Header.{radix}
+use Rattle.job.proofs.Limits as limits
+use Rattle.job.specs.Rules.{inner-bits}
+use Rattle.job.specs.declared.Header.{Header}
+use Rattle.stepping.specs.Steps.{filled, last-digits, chosen-digits, residuals-left, digits-stored, one-step, steps}
+use Rattle.stepping.specs.Inner.{digit-from, residual-from, Vector, MayChoose, row-dot, Summed, MaySumRows, Signs, Between, MayStepOnce, Stepped, MayStep}
+use Rattle.stepping.proofs.Limits.{KeepsLimits, may-sum-rows, digits-signs, may-choose-from}
+use Rattle.stepping.proofs.Stepped.{vector-zeros, length-stepped-digits, stepped-digit-past, filled-summed, length-filled, filled-stepped, filled-left, keeps-limits-next}
+use Rattle.state.specs.State.{state-unit, digits-of}
+use Rattle.state.specs.PassesLimits.{PassesLimits}
+use Rattle.state.specs.Inner.{state-of}
+use Rattle.state.specs.declared.State.{State}
+use Rattle.stepping.proofs.Steps.{steps-header, steps-busy, steps-k, stored-same}
+use Rattle.stepping.proofs.Kept.{steps-pass-limits, keeps-limits}
+
+-- ---- a vector of n rows in an array of 16
+
+vector-flat : (n : ℕ) (B : ℕ → ℤ) → Vector n (flat-vector n B)
+vector-flat n B = record { size = length-list-from 0 16 _; past = λ i l. past i l (le-or-lt 16 i) }
+  where
+    past : (i : ℕ) → n ≤ i → (16 ≤ i) ⊎ (i < 16) → at (flat-vector n B) i ≡ pos 0
+    past i l (inl m) = List·getD-eq-default (flat-vector n B) (pos 0) (omega (arith, length-list-from 0 16 (λ i. cond (ltb i n) (B i) (pos 0))))
+    past i l (inr m) =
+        let e : 0 + i ≡ i = omega arith in
+        getD-list-from 0 16 (λ i. cond (ltb i n) (B i) (pos 0)) i m ∙ rw (e, le-ltb i n l) refl
+
+-- ---- the digits of a step, stored and copied out again
+
+module _ (n k : ℕ) (ds d : List ℤ) (order : n ≤ 16) (size : length d ≡ 16) (past : (i : ℕ) → n ≤ i → at d i ≡ pos 0) (room : 16 * k + 16 ≤ length ds) where
+  abbrev row : ℕ → ℤ
+  row = digits-of (digits-stored n k ds d) (suc k)
+
+  pub stored-copied : flat-vector n row ≡ d
+  stored-copied = ext-getD (pos 0) (flat-vector n row) d (length-list-from 0 16 _ ∙ sym size) (λ i l. same i (rw (length-list-from 0 16 (λ i. cond (ltb i n) (row i) (pos 0))) at l) (le-or-lt n i))
+    where
+      same : (i : ℕ) → i < 16 → (n ≤ i) ⊎ (i < n) → at (flat-vector n row) i ≡ at d i
+      same i l (inl h) =
+          let e : 0 + i ≡ i = omega arith in
+          getD-list-from 0 16 (λ i. cond (ltb i n) (row i) (pos 0)) i l ∙ rw (e, le-ltb i n h) (sym (past i h))
+      same i l (inr h) = at-flat-vector n row i order h ∙ stored-same n k ds d i h room order
+
+steps-g : (s : State) (j : ℕ) → steps s j .g ≡ s .g
+unfolding steps one-step
+steps-g s zero = refl
+steps-g s (suc j) = steps-g s j
+
+length-digits : (s : State) (j : ℕ) → length (steps s j .digits) ≡ length (s .digits)
+unfolding steps one-step
+length-digits s zero = refl
+length-digits s (suc j) =
+    length-stores (steps s j .digits) (λ i. 16 * steps s j .k + i) (at (chosen-digits (steps s j))) (steps s j .header .n) ∙ length-digits s j
+
+state-is : (a : State) {b : Bool} {h : Header} {k : ℕ} {g z ds : List ℤ} → b ≡ a .busy → h ≡ a .header → k ≡ a .k → g ≡ a .g → z ≡ a .z → ds ≡ a .digits
+    → record { busy = b; header = h; k = k; g = g; z = z; digits = ds } ≡ a
+state-is a eb eh ek eg ez ed = rw (eb, eh, ek, eg, ez, ed) refl
+
+-- a job with no steps made, put together from its parts
+pub fresh-whole : (s : State) → s .busy ≡ true → s .k ≡ 0 → state-of true (s .header) 0 (s .g) (s .z) (s .digits) ≡ s
+fresh-whole s e f = state-is s (sym e) refl (sym f) refl refl refl
+
+-- a busy state put together from its parts
+pub busy-whole : (s : State) → s .busy ≡ true → state-of true (s .header) (s .k) (s .g) (s .z) (s .digits) ≡ s
+busy-whole s e = state-is s (sym e) refl refl refl refl refl
+
+-- the state put together from the arrays after the last step
+pub steps-whole : (s : State) (j : ℕ) (z ds : List ℤ) → z ≡ steps s j .z → ds ≡ steps s j .digits
+    → record { busy = s .busy; header = s .header; k = s .k + j; g = s .g; z = z; digits = ds } ≡ steps s j
+steps-whole s j z ds ez ed = state-is (steps s j) (sym (steps-busy s j)) (sym (steps-header s j)) (sym (steps-k s j)) (sym (steps-g s j)) ez ed
+
+module _ {s : State} {made : ℕ} (b : MayStep s made) where
+  pub steps-have-room : s .k + made ≤ 60
+  steps-have-room = omega (arith, b .left, limits.last-small (s .header) (b .passes .limits))
+
+-- ---- one step
+
+-- the rows filled with their sums
+pub rows-summed : {n : ℕ} {g d s : List ℤ} (v : List ℤ) → length v ≡ 16 → n ≤ 16 → s ≡ filled (row-dot n g d) v n → (length s ≡ 16) × Summed n g d s
+rows-summed {n} {g} {d} v size order e = (rw e (length-filled (row-dot n g d) v n ∙ size), filled-summed v size order e)
+
+-- a step can be made with the digits of the step before
+pub first-limits : {s : State} {before : List ℤ} → PassesLimits s → before ≡ last-digits s
+    → KeepsLimits (s .header .n) (radix (s .header .code)) (s .header .p) (state-unit s) (s .g) (s .z) before
+first-limits b e = rw e (keeps-limits _ b)
+
+module _ {s : State} {r bits : ℕ} {before chosen sums : List ℤ} (a : MayStepOnce s r bits before chosen sums) where
+  abbrev n : ℕ
+  n = s .header .n
+
+  abbrev p : ℕ
+  p = s .header .p
+
+  abbrev u : ℕ
+  u = 2 ^ bits
+
+  few-bits : bits ≤ 40
+  few-bits = rw (a .bits-are) (limits.inner-bits-most (s .header) (a .may .passes .limits))
+
+  step-limits : KeepsLimits n r p u (s .g) (s .z) before
+  step-limits = rw (a .radix-is, a .bits-are) (first-limits (a .may .passes) (a .between .last))
+
+  pub may-choose : (bits ≤ 40) × MayChoose n r p u (s .z) sums
+  may-choose = (few-bits, may-choose-from few-bits step-limits (a .between .summed))
+
+  -- `new` has what `choose` left in the vector being chosen
+  module _ {new : List ℤ} (ec : new ≡ filled (digit-from r p u (s .z) sums) chosen n) where
+    new-is : new ≡ chosen-digits s
+    new-is =
+        ec ∙ filled-stepped (a .between .summed) r p u (s .z) (a .between .free) ∙ rw (a .radix-is, a .bits-are, a .between .last) refl
+
+    next-limits : KeepsLimits n (radix (s .header .code)) p u (s .g) (residuals-left s) new
+    next-limits = rw (a .bits-are) (keeps-limits-next (pow-pos (inner-bits (s .header))) (keeps-limits s (a .may .passes)) refl new-is)
+
+    -- the rows can be summed with it
+    pub may-sum : MaySumRows n (s .g) new
+    may-sum = may-sum-rows few-bits next-limits
+
+    pub new-signs : p ≡ 1 → Signs n new
+    new-signs e = digits-signs few-bits next-limits e
+
+    -- and the step is made: `z` and `ds` have what `choose` and `store_digits` left, and `sums′` the rows'
+    -- sums
+    pub stepped : {z ds sums′ : List ℤ} → z ≡ filled (residual-from r p u (s .z) sums) (s .z) n → ds ≡ digits-stored n (s .k) (s .digits) new
+        → Summed n (s .g) new sums′ → Stepped s before z ds new before sums′
+    unfolding one-step
+    stepped ez ed es =
+        record {
+          residuals = ez ∙ filled-left (a .between .summed) r p u (s .z) ∙ rw (a .radix-is, a .bits-are, a .between .last) refl;
+          digits = ed ∙ rw new-is refl;
+          newest = new-is;
+          exchanged = refl;
+          summed = es;
+        }
+
+-- ---- a loop over steps
+
+-- what the arrays hold after j steps
+pub record Reached (s : State) (j : ℕ) (ds z before chosen sums : List ℤ) : Type 0 where
+  pub digits : ds ≡ steps s j .digits
+  pub residuals : z ≡ steps s j .z
+  pub between : Between (steps s j) before chosen sums
+
+pub reached-start : {s : State} {before sums : List ℤ} → before ≡ last-digits s → Summed (s .header .n) (s .g) before sums
+    → Reached s 0 (s .digits) (s .z) before (replicate 16 (pos 0)) sums
+unfolding steps
+reached-start {s} e h =
+    record { digits = refl; residuals = refl; between = record { last = e; free = vector-zeros (s .header .n); summed = h } }
+
+module _ {s : State} {made j : ℕ} {ds z before chosen sums : List ℤ} (b : MayStep s made) (l : j < made) (h : Reached s j ds z before chosen sums) where
+  abbrev S : State
+  S = steps s j
+
+  -- the state that the arrays make
+  abbrev now-is : State
+  now-is = state-of (s .busy) (s .header) (s .k + j) (s .g) z ds
+
+  whole : now-is ≡ S
+  whole = steps-whole s j z ds (h .residuals) (h .digits)
+
+  left : MayStep S 1
+  left =
+      record {
+        passes = steps-pass-limits s j (b .passes) (omega (arith, b .left));
+        room = length-digits s j ∙ b .room;
+        left = rw (steps-header s j, steps-k s j) (omega (arith, b .left));
+      }
+
+  -- one more can be made of it
+  pub reached-may : (r bits : ℕ) → r ≡ radix (s .header .code) → bits ≡ inner-bits (s .header) → MayStepOnce now-is r bits before chosen sums
+  reached-may r bits e f =
+      rw whole
+      (record {
+        may = left;
+        radix-is = e ∙ rw (steps-header s j) refl;
+        bits-are = f ∙ rw (steps-header s j) refl;
+        between = h .between;
+      })
+
+  -- and the digits that it chooses are found again where it stored them
+  copied : last-digits (one-step S) ≡ chosen-digits S
+  unfolding one-step
+  copied =
+      stored-copied (S .header .n) (S .k) (S .digits) (chosen-digits S) (left .passes .limits .order-most)
+      (length-stepped-digits (S .header .n) (radix (S .header .code)) (S .header .p) (state-unit S) (S .g) (S .z) (last-digits S))
+      (stepped-digit-past (S .header .n) (radix (S .header .code)) (S .header .p) (state-unit S) (S .g) (S .z) (last-digits S))
+      (omega (arith, left .room, steps-have-room left))
+
+  pub reached-next : {ds′ z′ before′ chosen′ sums′ : List ℤ} → Stepped now-is before z′ ds′ before′ chosen′ sums′ → Reached s (j + 1) ds′ z′ before′ chosen′ sums′
+  unfolding steps one-step
+  reached-next {ds′} {z′} {before′} {chosen′} {sums′} t = rw add-one (turn (rw whole at t))
+    where
+      turn : Stepped S before z′ ds′ before′ chosen′ sums′ → Reached s (suc j) ds′ z′ before′ chosen′ sums′
+      turn q =
+          record {
+            digits = q .digits;
+            residuals = q .residuals;
+            between = record {
+              last = q .newest ∙ sym copied;
+              free = rw (q .exchanged, h .between .last) (vector-flat (S .header .n) (digits-of (S .digits) (S .k)));
+              summed = q .summed;
+            };
+          }

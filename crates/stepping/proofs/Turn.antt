@@ -1,0 +1,119 @@
+-- One turn of the loop over the rows: row i's w, its digit and its residual, as the machine has them. Cited
+-- by the proof of `choose`.
+use mathlib.Core.Path.{_≡_, refl, ap, _∙_}
+use mathlib.Core.List.{List}
+use Prim.Native.Nat.{ℕ, _+_, _*_, _^_, _<_, _≤_}
+use native.Mathlib.Nat.{mul-le-mul}
+use native.Mathlib.Omega.{arith}
+use lib.IntN.{ℤ, pos, natAbs, _+ℤ_, _-ℤ_, _*ℤ_}
+use lib.Pow.{pow-pos}
+use mir.Syntax.{w8, w64}
+use mir.Val.{toZ, ofZ}
+use Rattle.integers.specs.Within.{Within}
+use Rattle.integers.proofs.Machine.{Machine, known, bounded, machs, machine-eq, machine-within}
+use Rattle.recurrence.specs.Selection.{Selects, select}
+use Rattle.recurrence.proofs.Selection.{select-selects}
+use Rattle.integers.specs.Flat.{at}
+use Rattle.job.specs.Rules.{bound-over, bound-under}
+use Rattle.stepping.specs.Steps.{filled}
+use Rattle.stepping.specs.Inner.{shifted-by, digit-from, residual-from, MayChoose}
+use Rattle.stepping.proofs.Chosen.{unit-most}
+use Rattle.stepping.proofs.Stepped.{filled-past}
+
+-- A turn for row i: `v` are the residuals as the loop has them, those of the rows below i new and the
+-- others still z's.
+pub record Begun (z s : List ℤ) (n r p f i : ℕ) (v : List ℤ) : Type 0 where
+  pub bits : f ≤ 40
+  pub may : MayChoose n r p (2 ^ f) z s
+  pub below : i < n
+  pub so-far : v ≡ filled (residual-from r p (2 ^ f) z s) z i
+
+module _ {z s : List ℤ} {n r p f i : ℕ} {v : List ℤ} (h : Begun z s n r p f i v) where
+  -- row i's numbers
+  abbrev W : ℤ
+  W = shifted-by r z s i
+
+  abbrev D : ℤ
+  D = digit-from r p (2 ^ f) z s i
+
+  abbrev R : ℤ
+  R = residual-from r p (2 ^ f) z s i
+
+  -- and how large they are
+  unit-bound : 2 ^ f ≤ 2 ^ 40
+  unit-bound = unit-most f (h .bits)
+
+  W-bound : bound-under * natAbs W ≤ (bound-under * p + bound-over) * 2 ^ f
+  W-bound = h .may .bound i (h .below)
+
+  W-small : natAbs W ≤ 2 ^ 45
+  W-small = let k : 2 * p + 1 ≤ 31 = omega (arith, h .may .largest) in omega (arith, W-bound, mul-le-mul k unit-bound)
+
+  rule : Selects p (2 ^ f) bound-over bound-under (select p (2 ^ f))
+  rule = select-selects p (2 ^ f) (pow-pos f)
+
+  D-small : natAbs D ≤ 15
+  D-small = omega (arith, rule .small W W-bound, h .may .largest)
+
+  R-small : natAbs R ≤ 2 ^ 40
+  R-small = omega (arith, rule .left W W-bound, unit-bound)
+
+  z-is : at v i ≡ at z i
+  z-is = rw (h .so-far) (filled-past (residual-from r p (2 ^ f) z s) z i i (omega arith))
+
+  abbrev the-z : Machine (at v i)
+  the-z = known (at v i) (at z i) (2 ^ 40) z-is (h .may .residuals i (h .below))
+
+  abbrev the-s : Machine (at s i)
+  the-s = bounded (at s i) (2 ^ 48) (h .may .sums i (h .below))
+
+  z-read : toZ w64 (ofZ w64 (at v i)) ≡ at z i
+  z-read = let a = the-z in machine-eq (search machs depth 9) tt refl
+
+  s-read : toZ w64 (ofZ w64 (at s i)) ≡ at s i
+  s-read = let a = the-s in machine-eq (search machs depth 9) tt refl
+
+  -- what `shifted` asks
+  pub z-within : Within (toZ w64 (ofZ w64 (at v i))) (2 ^ 40)
+  z-within = let a = the-z in machine-within (search machs depth 9) tt
+
+  pub s-within : Within (toZ w64 (ofZ w64 (at s i))) (2 ^ 48)
+  s-within = let a = the-s in machine-within (search machs depth 9) tt
+
+  -- `w` is what `shifted` gave
+  module _ (w : ℤ) (ew : w ≡ pos r *ℤ (toZ w64 (ofZ w64 (at v i)) +ℤ toZ w64 (ofZ w64 (at s i)))) where
+    w-is : w ≡ W
+    w-is = ew ∙ rw (z-read, s-read) refl
+
+    abbrev the-w : Machine w
+    the-w = known w W (2 ^ 45) w-is W-small
+
+    w-read : toZ w64 (ofZ w64 w) ≡ W
+    w-read = let a = the-w in machine-eq (search machs depth 9) tt refl
+
+    pub w-within : Within (toZ w64 (ofZ w64 w)) (2 ^ 45)
+    w-within = let a = the-w in machine-within (search machs depth 9) tt
+
+    -- `q` is what `select` gave
+    module _ (q : ℤ) (eq : q ≡ select p (2 ^ f) (toZ w64 (ofZ w64 w))) where
+      q-is : q ≡ D
+      q-is = eq ∙ ap (λ x. select p (2 ^ f) x) w-read
+
+      abbrev the-q : Machine q
+      the-q = known q D 15 q-is D-small
+
+      q-read : toZ w64 (ofZ w64 q) ≡ D
+      q-read = let a = the-q in machine-eq (search machs depth 9) tt refl
+
+      pub q-within : {B : ℕ} → 15 ≤ B → Within (toZ w64 (ofZ w64 q)) B
+      q-within k = record { abs = rw q-read (omega (arith, D-small)) }
+
+      -- what is stored: `x` is what `narrow` gave, `y` what `left` gave
+      pub digit-stored : (x : ℤ) → x ≡ toZ w64 (ofZ w64 q) → toZ w8 (ofZ w8 x) ≡ D
+      digit-stored x e = let a = known x D 15 (e ∙ q-read) D-small in machine-eq (search machs depth 9) tt refl
+
+      y-is : (y : ℤ) → y ≡ toZ w64 (ofZ w64 w) -ℤ pos (2 ^ f) *ℤ toZ w64 (ofZ w64 q) → y ≡ R
+      y-is y e = e ∙ rw (w-read, q-read) refl
+
+      pub residual-stored : (y : ℤ) → y ≡ toZ w64 (ofZ w64 w) -ℤ pos (2 ^ f) *ℤ toZ w64 (ofZ w64 q) → toZ w64 (ofZ w64 y) ≡ R
+      residual-stored y e = let a = known y R (2 ^ 40) (y-is y e) R-small in machine-eq (search machs depth 9) tt refl

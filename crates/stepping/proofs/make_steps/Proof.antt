@@ -1,0 +1,24 @@
+-- Each way makes the same steps.
+use borrow.Author.Needs.{needs}
+use Rattle.stepping.proofs.make_steps.Statement.{statement}
+use Rattle.stepping.proofs.make_steps.Tie as tie
+
+table-pays-requires : tie.Need-table-pays-requires
+table-pays-requires c κs = search needs
+
+run-by-columns-requires : tie.Need-run-by-columns-requires
+run-by-columns-requires c κs = let t = c .before .before in (t .before .before .pre, t .before .table-pays .ensures (t .if1 .taken))
+
+run-by-rows-requires : tie.Need-run-by-rows-requires
+run-by-rows-requires c κs = search needs
+
+returns : tie.Need-returns
+returns c = search needs
+
+returns-2 : tie.Need-returns-2
+returns-2 c = search needs
+
+pub make-steps-spec : {M : Type 1} → statement M
+make-steps-spec =
+    tie.close
+    (tie.spec table-pays-requires run-by-columns-requires run-by-rows-requires returns returns-2)

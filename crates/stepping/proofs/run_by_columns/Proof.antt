@@ -1,0 +1,108 @@
+-- The invariant: the arrays are the state's after j steps. The measure is what is left of the steps to be
+-- made.
+use mathlib.Core.Path.{_≡_}
+use mathlib.Core.Bool.{true}
+use Prim.Native.Nat.{_-_, _≤_}
+use borrow.Author.Needs.{needs}
+use native.Mathlib.Omega.{arith}
+use Rattle.job.proofs.Limits.{inner-bits-most}
+use Rattle.stepping.proofs.Limits.{may-tabulate, digits-signs}
+use Rattle.stepping.proofs.Table.{table-summed}
+use Rattle.state.specs.Inner.{state-of}
+use Rattle.stepping.proofs.Kept as kept
+use Rattle.stepping.proofs.Stepping.{Reached, first-limits, reached-start, reached-may, reached-next, steps-have-room}
+use Rattle.stepping.proofs.run_by_columns.Statement.{statement}
+use Rattle.stepping.proofs.run_by_columns.Tie as tie
+
+abbrev Inv-loop : tie.InvT-loop
+Inv-loop h k made g z₀ digits₀ n r bits table v₀ sums₀ j₀ z digits v sums j =
+    (j ≤ made) × Reached (state-of true h k g z₀ digits₀) j digits z (v .before) (v .chosen) sums
+
+abbrev μ-loop : tie.MeasureT-loop
+μ-loop h k made g z₀ digits₀ n r bits table v₀ sums₀ j₀ z digits v sums j = made - j
+
+radix-requires : tie.Need-radix-requires Inv-loop μ-loop
+radix-requires c κs = c .pre .0 .passes .limits .code-most
+
+inner-bits-requires : tie.Need-inner-bits-requires Inv-loop μ-loop
+inner-bits-requires c κs = search needs
+
+products-requires : tie.Need-products-requires Inv-loop μ-loop
+products-requires c κs = let b = c .before .before .pre .0 .passes in (b .limits .order-most, may-tabulate (inner-bits-most _ (b .limits)) (kept.keeps-limits _ b))
+
+last-digits-requires : tie.Need-last-digits-requires Inv-loop μ-loop
+last-digits-requires c κs = let b = c .before .before .before .before .pre .0 in (omega (arith, steps-have-room b), b .passes .limits .order-most)
+
+-- ---- the first sums
+
+abbrev start : tie.After-last-digits Inv-loop μ-loop → tie.Start Inv-loop μ-loop
+start d = d .before .before .before .before .before
+
+column-sums-requires : tie.Need-column-sums-requires Inv-loop μ-loop
+column-sums-requires c κs =
+    let d = c .before .before .before in
+    let p = start d .pre in
+    let b = p .0 .passes in
+    (b .limits .order-most, d .before .before .products .ensures .table, digits-signs (inner-bits-most _ (b .limits)) (first-limits b (d .last-digits .ensures)) (p .1))
+
+loop-holds : tie.Need-loop-holds Inv-loop μ-loop
+loop-holds c =
+    let d = c .before .before .before .before in
+    (omega arith, reached-start (d .last-digits .ensures) (table-summed _ _ (start d .pre .0 .passes .limits .order-most) (d .before .before .products .ensures) (c .column-sums .ensures)))
+
+-- ---- a turn
+
+abbrev begun : tie.In-loop Inv-loop μ-loop → tie.After-last-digits Inv-loop μ-loop
+begun i = i .before .before .before .before .before .before
+
+add-step-by-columns : tie.Need-add-step-by-columns Inv-loop μ-loop
+add-step-by-columns c = let i = c .before .before in omega (arith, steps-have-room (start (begun i) .pre .0), i .loop-test .taken)
+
+step-by-columns-requires : tie.Need-step-by-columns-requires Inv-loop μ-loop
+step-by-columns-requires c κs =
+    let i = c .before .before .before .before .before .before in
+    let d = begun i in
+    let p = start d .pre in (
+      reached-may (p .0) (i .loop-test .taken) (i .before .loop .inv .1) _ _ (d .before .before .before .before .radix .ensures) (d .before .before .before .inner-bits .ensures),
+      d .before .before .products .ensures,
+      p .1,
+    )
+
+abbrev taken : tie.After-step-by-columns Inv-loop μ-loop → tie.In-loop Inv-loop μ-loop
+taken c = c .before .before .before .before .before .before .before
+
+add-j : tie.Need-add-j Inv-loop μ-loop
+add-j c = let i = taken c in omega (arith, steps-have-room (start (begun i) .pre .0), i .loop-test .taken)
+
+loop-less : tie.Need-loop-less Inv-loop μ-loop
+loop-less c = omega arith
+
+loop-again : tie.Need-loop-again Inv-loop μ-loop
+loop-again c =
+    let i = taken c in
+    (omega arith, reached-next (start (begun i) .pre .0) (i .loop-test .taken) (i .before .loop .inv .1) (c .step-by-columns .ensures))
+
+returns : tie.Need-returns Inv-loop μ-loop
+returns c =
+    let l = c .before .loop in
+    let e : l .j ≡ start (c .before .before .before .before .before .before) .args .made = omega arith in
+    (rw e at (l .inv .1 .residuals), rw e at (l .inv .1 .digits))
+
+pub run-by-columns-spec : {M : Type 1} → statement M
+run-by-columns-spec =
+    tie.close
+    (tie.spec
+    Inv-loop
+    μ-loop
+    radix-requires
+    inner-bits-requires
+    products-requires
+    last-digits-requires
+    column-sums-requires
+    loop-holds
+    add-step-by-columns
+    step-by-columns-requires
+    add-j
+    loop-less
+    loop-again
+    returns)

@@ -1,0 +1,115 @@
+-- The invariant: the arrays are the state's after j steps. The measure is what is left of the steps to be
+-- made.
+use mathlib.Core.Path.{_≡_, refl}
+use mathlib.Core.Bool.{true}
+use Prim.Native.Nat.{_-_, _≤_}
+use borrow.Author.Needs.{needs}
+use native.Mathlib.Omega.{arith}
+use lib.IntN.{pos}
+use lib.ListN.{length, replicate}
+use Rattle.job.proofs.Limits.{inner-bits-most}
+use Rattle.stepping.proofs.Limits.{may-sum-rows}
+use Rattle.state.specs.Inner.{state-of}
+use Rattle.stepping.proofs.Stepping.{Reached, rows-summed, first-limits, reached-start, reached-may, reached-next, steps-have-room}
+use Rattle.stepping.proofs.run_by_rows.Statement.{statement}
+use Rattle.stepping.proofs.run_by_rows.Tie as tie
+
+abbrev Inv-loop : tie.InvT-loop
+Inv-loop h k made g z₀ digits₀ n r bits starts ends v₀ sums₀ j₀ z digits v sums j =
+    (j ≤ made) × (length sums ≡ 16) × Reached (state-of true h k g z₀ digits₀) j digits z (v .before) (v .chosen) sums
+
+abbrev μ-loop : tie.MeasureT-loop
+μ-loop h k made g z₀ digits₀ n r bits starts ends v₀ sums₀ j₀ z digits v sums j = made - j
+
+radix-requires : tie.Need-radix-requires Inv-loop μ-loop
+radix-requires c κs = c .pre .passes .limits .code-most
+
+inner-bits-requires : tie.Need-inner-bits-requires Inv-loop μ-loop
+inner-bits-requires c κs = search needs
+
+row-starts-requires : tie.Need-row-starts-requires Inv-loop μ-loop
+row-starts-requires c κs = let l = c .before .before .pre .passes .limits in (l .order-least, l .order-most)
+
+row-ends-requires : tie.Need-row-ends-requires Inv-loop μ-loop
+row-ends-requires c κs = c .before .before .before .pre .passes .limits .order-most
+
+last-digits-requires : tie.Need-last-digits-requires Inv-loop μ-loop
+last-digits-requires c κs = let b = c .before .before .before .before .before .pre in (omega (arith, steps-have-room b), b .passes .limits .order-most)
+
+-- ---- the first sums
+
+abbrev start : tie.After-last-digits Inv-loop μ-loop → tie.Start Inv-loop μ-loop
+start d = d .before .before .before .before .before .before
+
+row-sums-requires : tie.Need-row-sums-requires Inv-loop μ-loop
+row-sums-requires c κs =
+    let d = c .before .before .before .before .before in
+    let b = start d .pre .passes in
+    (b .limits .order-most, may-sum-rows (inner-bits-most _ (b .limits)) (first-limits b (d .last-digits .ensures)), d .before .before .before .row-starts .ensures, d .before .before .row-ends .ensures)
+
+loop-holds : tie.Need-loop-holds Inv-loop μ-loop
+loop-holds c =
+    let d = c .before .before .before .before .before .before in
+    let j : 0 ≤ start d .args .made = omega arith in
+    let q = rows-summed (replicate 16 (pos 0)) refl (start d .pre .passes .limits .order-most) (c .row-sums .ensures) in
+    (j, q .0, reached-start (d .last-digits .ensures) (q .1))
+
+-- ---- a turn
+
+abbrev begun : tie.In-loop Inv-loop μ-loop → tie.After-last-digits Inv-loop μ-loop
+begun i = i .before .before .before .before .before .before .before .before
+
+add-step-by-rows : tie.Need-add-step-by-rows Inv-loop μ-loop
+add-step-by-rows c = let i = c .before .before in omega (arith, steps-have-room (start (begun i) .pre), i .loop-test .taken)
+
+step-by-rows-requires : tie.Need-step-by-rows-requires Inv-loop μ-loop
+step-by-rows-requires c κs =
+    let i = c .before .before .before .before .before .before .before in
+    let d = begun i in
+    let v = i .before .loop .inv in (
+      reached-may (start d .pre) (i .loop-test .taken) (v .2) _ _ (d .before .before .before .before .before .radix .ensures) (d .before .before .before .before .inner-bits .ensures),
+      d .before .before .before .row-starts .ensures,
+      d .before .before .row-ends .ensures,
+      v .1,
+    )
+
+abbrev taken : tie.After-step-by-rows Inv-loop μ-loop → tie.In-loop Inv-loop μ-loop
+taken c = c .before .before .before .before .before .before .before .before
+
+add-j : tie.Need-add-j Inv-loop μ-loop
+add-j c = let i = taken c in omega (arith, steps-have-room (start (begun i) .pre), i .loop-test .taken)
+
+loop-less : tie.Need-loop-less Inv-loop μ-loop
+loop-less c = omega arith
+
+loop-again : tie.Need-loop-again Inv-loop μ-loop
+loop-again c =
+    let i = taken c in
+    let o = c .step-by-rows .ensures in
+    (omega arith, o .1, reached-next (start (begun i) .pre) (i .loop-test .taken) (i .before .loop .inv .2) (o .0))
+
+returns : tie.Need-returns Inv-loop μ-loop
+returns c =
+    let l = c .before .loop in
+    let e : l .j ≡ start (c .before .before .before .before .before .before .before .before) .args .made = omega arith in
+    (rw e at (l .inv .2 .residuals), rw e at (l .inv .2 .digits))
+
+pub run-by-rows-spec : {M : Type 1} → statement M
+run-by-rows-spec =
+    tie.close
+    (tie.spec
+    Inv-loop
+    μ-loop
+    radix-requires
+    inner-bits-requires
+    row-starts-requires
+    row-ends-requires
+    last-digits-requires
+    row-sums-requires
+    loop-holds
+    add-step-by-rows
+    step-by-rows-requires
+    add-j
+    loop-less
+    loop-again
+    returns)

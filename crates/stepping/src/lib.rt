@@ -1,0 +1,251 @@
+// Steps of a job. A step sums the rows with the digits of the step before, and then chooses a digit in each
+// row. The rows are summed in one of two ways, and `make_steps` takes the one that is likely to be faster.
+// Its contract is an equality with `steps` of specs/Steps.antt, which also says what steps have to do with
+// the recurrence.
+ghost use mathlib.Core.Path.{_≡_};
+ghost use mathlib.Core.Bool.{true};
+ghost use Prim.Native.Nat.{_<_, _≤_};
+ghost use lib.ListN.{length};
+ghost use Rattle.integers.specs.Flat.{flat-vector};
+ghost use Rattle.stepping.specs.Inner.{Starts, Ends, Products, MayStepOnce, Stepped, MayStep};
+ghost use Rattle.state.specs.State.{digits-of};
+ghost use Rattle.state.specs.Inner.{state-of};
+ghost use Rattle.stepping.specs.Steps.{digits-stored, steps};
+use job::Header;
+use job::ROWS;
+use state::DIGITS;
+use sums::PRODUCTS;
+use system::ENTRIES;
+
+mod choice; // choice.rt: a digit in each row
+mod sums; // sums.rt: the rows' sums, in two ways
+
+// The digits of step k in the rows below n: 0 before the first step and past row n. In the array of all
+// digits those of a step start 16 after those of the step before.
+fn last_digits(digits: &[i8; DIGITS], k: usize, n: usize) -> [i8; ROWS]
+    requires { ⌜ (k ≤ 60) × (n ≤ 16) ⌝ }
+    ensures { λ d. ⌜ d ≡ flat-vector n (digits-of (now (digits .entry)) k) ⌝ }
+{
+    let mut d = [0i8; ROWS];
+    if k == 0 {
+        return d;
+    }
+    let start = 16 * (k - 1);
+    let mut i: usize = 0;
+    while i < n {
+        d[i] = digits[start + i];
+        i += 1;
+    }
+    d
+}
+
+// Stores the digits chosen in the step after the k-th, in the rows below n.
+fn store_digits(digits: &mut [i8; DIGITS], k: usize, n: usize, chosen: &[i8; ROWS])
+    requires { ⌜ (k < 60) × (n ≤ 16) ⌝ }
+    ensures { λ _. ⌜ now (digits .exit) ≡ digits-stored n k (now (digits .entry)) (now (chosen .entry)) ⌝ }
+{
+    let start = 16 * k;
+    let mut i: usize = 0;
+    while i < n {
+        digits[start + i] = chosen[i];
+        i += 1;
+    }
+}
+
+// The digits of the step before and those being chosen.
+struct Vectors {
+    before: [i8; ROWS],
+    chosen: [i8; ROWS],
+}
+
+// The step after the k-th, with each row summed over the columns in which it has entries. Both vectors go
+// in and come back by value, and change places: the digits chosen are the step before of the next step.
+// `sums` comes in with the rows' sums with the step before, and goes out with those of the next step. These
+// are made here, from the vector just chosen, since a copy of it has to wait until the single digits are
+// written.
+fn step_by_rows<'a>(
+    h: Header,
+    r: usize,
+    bits: usize,
+    k: usize,
+    g: &'a [i64; ENTRIES],
+    starts: &'a [usize; ROWS],
+    ends: &'a [usize; ROWS],
+    before: [i8; ROWS],
+    mut chosen: [i8; ROWS],
+    sums: &mut [i64; ROWS],
+    z: &mut [i64; ROWS],
+    digits: &mut [i8; DIGITS],
+) -> Vectors
+    requires { ⌜ MayStepOnce (state-of true h k (now g) (now z) (now digits)) r bits before chosen (now sums) × Starts (h .n) (now g) (now starts) × Ends (h .n) (now g) (now ends) × (length (now sums) ≡ 16) ⌝ }
+    ensures step { λ v. ⌜ Stepped (state-of true h k (now (g .entry)) (now (z .entry)) (now (digits .entry))) before (now (z .exit)) (now (digits .exit)) (v .before) (v .chosen) (now (sums .exit)) ⌝ }
+    ensures size { λ _. ⌜ length (now (sums .exit)) ≡ 16 ⌝ }
+{
+    let n = h.n;
+    choice::choose(sums, z, &mut chosen, n, r, bits, h.p);
+    sums::row_sums(g, starts, ends, &chosen, n, sums);
+    store_digits(digits, k, n, &chosen);
+    Vectors {
+        before: chosen,
+        chosen: before,
+    }
+}
+
+// Makes the steps with each row summed over the columns in which it has entries.
+fn run_by_rows(
+    h: Header,
+    k: usize,
+    made: usize,
+    g: &[i64; ENTRIES],
+    z: &mut [i64; ROWS],
+    digits: &mut [i8; DIGITS],
+)
+    requires { ⌜ MayStep (state-of true h k (now g) (now z) (now digits)) made ⌝ }
+    ensures residuals { λ _. ⌜ now (z .exit) ≡ steps (state-of true h k (now (g .entry)) (now (z .entry)) (now (digits .entry))) made .z ⌝ }
+    ensures digits { λ _. ⌜ now (digits .exit) ≡ steps (state-of true h k (now (g .entry)) (now (z .entry)) (now (digits .entry))) made .digits ⌝ }
+{
+    let n = h.n;
+    let r = job::radix(h.code);
+    let bits = job::inner_bits(h);
+    let starts = sums::row_starts(g, n);
+    let ends = sums::row_ends(g, n);
+    let mut v = Vectors {
+        before: last_digits(digits, k, n),
+        chosen: [0; ROWS],
+    };
+    let mut sums = [0i64; ROWS];
+    sums::row_sums(g, &starts, &ends, &v.before, n, &mut sums);
+    let mut j: usize = 0;
+    while j < made {
+        let before = v.before;
+        let chosen = v.chosen;
+        v = step_by_rows(
+            h,
+            r,
+            bits,
+            k + j,
+            g,
+            &starts,
+            &ends,
+            before,
+            chosen,
+            &mut sums,
+            z,
+            digits,
+        );
+        j += 1;
+    }
+}
+
+// The same step in radix 2, with the products looked up in a table, column by column. The table is that of
+// g, which the contract alone names.
+fn step_by_columns<'a>(
+    h: Header,
+    r: usize,
+    bits: usize,
+    k: usize,
+    g: &'a [i64; ENTRIES],
+    table: &'a [i64; PRODUCTS],
+    before: [i8; ROWS],
+    mut chosen: [i8; ROWS],
+    sums: &mut [i64; ROWS],
+    z: &mut [i64; ROWS],
+    digits: &mut [i8; DIGITS],
+) -> Vectors
+    requires { ⌜ MayStepOnce (state-of true h k (now g) (now z) (now digits)) r bits before chosen (now sums) × Products (h .n) (now g) (now table) × (h .p ≡ 1) ⌝ }
+    ensures { λ v. ⌜ Stepped (state-of true h k (now (g .entry)) (now (z .entry)) (now (digits .entry))) before (now (z .exit)) (now (digits .exit)) (v .before) (v .chosen) (now (sums .exit)) ⌝ }
+{
+    let n = h.n;
+    choice::choose(sums, z, &mut chosen, n, r, bits, h.p);
+    *sums = sums::column_sums(table, &chosen, n);
+    store_digits(digits, k, n, &chosen);
+    Vectors {
+        before: chosen,
+        chosen: before,
+    }
+}
+
+// Makes the steps with the products looked up in a table.
+fn run_by_columns(
+    h: Header,
+    k: usize,
+    made: usize,
+    g: &[i64; ENTRIES],
+    z: &mut [i64; ROWS],
+    digits: &mut [i8; DIGITS],
+)
+    requires { ⌜ MayStep (state-of true h k (now g) (now z) (now digits)) made × (h .p ≡ 1) ⌝ }
+    ensures residuals { λ _. ⌜ now (z .exit) ≡ steps (state-of true h k (now (g .entry)) (now (z .entry)) (now (digits .entry))) made .z ⌝ }
+    ensures digits { λ _. ⌜ now (digits .exit) ≡ steps (state-of true h k (now (g .entry)) (now (z .entry)) (now (digits .entry))) made .digits ⌝ }
+{
+    let n = h.n;
+    let r = job::radix(h.code);
+    let bits = job::inner_bits(h);
+    let table = sums::products(g, n);
+    let mut v = Vectors {
+        before: last_digits(digits, k, n),
+        chosen: [0; ROWS],
+    };
+    let mut sums = sums::column_sums(&table, &v.before, n);
+    let mut j: usize = 0;
+    while j < made {
+        let before = v.before;
+        let chosen = v.chosen;
+        v = step_by_columns(
+            h,
+            r,
+            bits,
+            k + j,
+            g,
+            &table,
+            before,
+            chosen,
+            &mut sums,
+            z,
+            digits,
+        );
+        j += 1;
+    }
+}
+
+// Whether steps with a table of products are likely to be faster, the time to make the table included: in
+// radix 2, with enough rows and steps, where the first two rows have an entry in the last column. The rows
+// of a polynomial and of a rational curve have few entries.
+fn table_pays(g: &[i64; ENTRIES], n: usize, p: usize, made: usize) -> bool
+    requires { ⌜ n ≤ 16 ⌝ }
+    ensures { λ b. ⌜ (b ≡ true → p ≡ 1) ⌝ }
+{
+    if p != 1 {
+        return false;
+    }
+    if n < 8 {
+        return false;
+    }
+    if made < 4 {
+        return false;
+    }
+    if g[n - 1] == 0 {
+        return false;
+    }
+    g[16 + (n - 1)] != 0
+}
+
+// Makes the steps, in the way that is likely to be faster. For callers that know their state to pass 24.
+pub fn make_steps(
+    h: Header,
+    k: usize,
+    made: usize,
+    g: &[i64; ENTRIES],
+    z: &mut [i64; ROWS],
+    digits: &mut [i8; DIGITS],
+)
+    requires { ⌜ MayStep (state-of true h k (now g) (now z) (now digits)) made ⌝ }
+    ensures residuals { λ _. ⌜ now (z .exit) ≡ steps (state-of true h k (now (g .entry)) (now (z .entry)) (now (digits .entry))) made .z ⌝ }
+    ensures digits { λ _. ⌜ now (digits .exit) ≡ steps (state-of true h k (now (g .entry)) (now (z .entry)) (now (digits .entry))) made .digits ⌝ }
+{
+    if table_pays(g, h.n, h.p, made) {
+        run_by_columns(h, k, made, g, z, digits);
+    } else {
+        run_by_rows(h, k, made, g, z, digits);
+    }
+}

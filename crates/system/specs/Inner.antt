@@ -1,0 +1,41 @@
+-- What the contracts of inner functions cite; a reader of the promises can skip it.
+use mathlib.Core.Bool.{Bool, cond}
+use mathlib.Core.List.{List, [], _∷_}
+use Prim.Native.Nat.{ℕ, _*_, _/_, _^_, _<_, _≤_}
+use lib.Dec.{ltb, eqb}
+use lib.IntN.{ℤ, natAbs}
+use lib.ListN.{length}
+use Rattle.integers.specs.Within.{Within}
+use Rattle.integers.specs.Flat.{at, entry}
+use Rattle.integers.specs.Sum.{weight}
+use Rattle.job.specs.Refusal.{first-refusal}
+use Rattle.job.specs.Rules.{inner-unit, bound-over, bound-under}
+use Rattle.job.specs.declared.Header.{Header}
+use Rattle.system.specs.Rows.{weight-factor, weight-room}
+use Rattle.system.specs.System.{sent}
+use Rattle.job.specs.declared.Verdict.{Verdict}
+
+-- v has c numbers, none of a magnitude above 2^41, which the f + 2 bits of a number sent keep
+pub record Numbers (c : ℕ) (v : List ℤ) : Type 0 where
+  pub enough : c ≤ length v
+  pub small : (i : ℕ) → i < c → Within (sent v i) (2 ^ 41)
+
+-- the largest weight that is light enough, and the largest residual that is within its bound
+abbrev pub largest-light : Header → ℕ
+largest-light h = weight-room h / weight-factor h
+
+abbrev pub residual-most : Header → ℕ
+residual-most h = bound-over * inner-unit h / bound-under
+
+-- row i of the array g weighs more than the limit; number i of the array z is of a magnitude above the bound
+abbrev pub too-heavy : (limit : ℤ) (n : ℕ) (g : List ℤ) (i : ℕ) → Bool
+too-heavy limit n g i = ltb (natAbs limit) (weight n (entry g i))
+
+abbrev pub too-large : ℤ → List ℤ → ℕ → Bool
+too-large bound z i = ltb (natAbs bound) (natAbs (at z i))
+
+-- the verdict, where the searches for a heavy row and for a large right-hand side give a and b
+abbrev pub verdict-from : ℕ → ℕ → Verdict
+verdict-from a b =
+    let c = first-refusal ((8, ltb 0 a) ∷ (9, ltb 0 b) ∷ []) in
+    record { refusal = c; row = cond (eqb c 8) a (cond (eqb c 9) b 0) }

@@ -1,0 +1,91 @@
+-- Rows that are too heavy and right-hand sides that are too large (document 01, "The system"; refusals 8 and
+-- 9), and the first row that is.
+use mathlib.Core.Path.{_≡_}
+use mathlib.Core.Bool.{Bool, true, false, not, cond}
+use mathlib.Core.List.{List, [], _∷_}
+use mathlib.Core.Logic.{_↔_}
+use Prim.Native.Nat.{ℕ, zero, suc, _*_, _-_, _<_}
+use lib.Dec.{ltb, leb, eqb}
+use lib.IntN.{ℤ, natAbs}
+use Rattle.integers.specs.Sum.{weight}
+use Rattle.job.specs.Header.{radix, unit}
+use Rattle.job.specs.Refusal.{Check, first-refusal}
+use Rattle.job.specs.Rules.{inner-unit, bound-over, bound-under}
+use Rattle.job.specs.declared.Header.{Header}
+use Rattle.job.specs.declared.Verdict.{Verdict}
+
+-- Document 01's rule of light rows, 2 × r × p × S at most 2^f × (2p - (r - 1)), where 2 and 1 are the
+-- residual bound's: what a weight S is multiplied by, and what that may come to
+abbrev pub weight-factor : Header → ℕ
+weight-factor h = bound-under * radix (h .code) * h .p
+
+abbrev pub weight-room : Header → ℕ
+weight-room h = unit h * (bound-under * h .p - bound-over * (radix (h .code) - 1))
+
+-- document 01's "light enough", of a row of weight S
+abbrev pub light-enough : Header → ℕ → Bool
+light-enough h S = leb (weight-factor h * S) (weight-room h)
+
+-- document 01's "small enough", of a right-hand side B
+abbrev pub small-enough : Header → ℤ → Bool
+small-enough h B = leb (2 * natAbs B) (unit h)
+
+-- a residual z inside a state is within its bound
+abbrev pub residual-kept : Header → ℤ → Bool
+residual-kept h z = leb (bound-under * natAbs z) (bound-over * inner-unit h)
+
+-- ---- the first row
+
+-- the number, from 1, of the first of k rows from row i on whose test is true; 0 where none is
+unfoldable pub first-row-from : (i k : ℕ) (t : ℕ → Bool) → ℕ
+first-row-from i zero t = 0
+first-row-from i (suc k) t = cond (t i) (suc i) (first-row-from (suc i) k t)
+
+abbrev pub first-row : (n : ℕ) (t : ℕ → Bool) → ℕ
+first-row n t = first-row-from 0 n t
+
+-- no test of n rows is true
+pub record Never (n : ℕ) (t : ℕ → Bool) : Type 0 where
+  pub never : (j : ℕ) → j < n → t j ≡ false
+
+-- of n rows, row i is the first whose test is true
+pub record FirstRowIs (n : ℕ) (t : ℕ → Bool) (i : ℕ) : Type 0 where
+  pub inside : i < n
+  pub here : t i ≡ true
+  pub before : Never i t
+
+-- Row i is given, as i + 1, exactly when its test is the first that is true, and 0 exactly when no test is.
+-- Proved in proofs/FirstRow.antt, as `first-row-is` and `first-row-none`.
+abbrev pub FirstRowFound : Type 0
+FirstRowFound = (t : ℕ → Bool) (n i : ℕ) → (first-row n t ≡ suc i) ↔ FirstRowIs n t i
+
+abbrev pub FirstRowNone : Type 0
+FirstRowNone = (t : ℕ → Bool) (n : ℕ) → (first-row n t ≡ 0) ↔ Never n t
+
+-- the first row that is too heavy, the first whose right-hand side is too large, and the first whose residual
+-- is; 0 where none is
+abbrev pub heavy-row : Header → (ℕ → ℕ → ℤ) → ℕ
+heavy-row h G = first-row (h .n) (λ i. not (light-enough h (weight (h .n) (G i))))
+
+abbrev pub large-row : Header → (ℕ → ℤ) → ℕ
+large-row h B = first-row (h .n) (λ i. not (small-enough h (B i)))
+
+abbrev pub large-residual : Header → (ℕ → ℤ) → ℕ
+large-residual h Z = first-row (h .n) (λ i. not (residual-kept h (Z i)))
+
+-- ---- 8, 9: all weights are looked at before any right-hand side
+
+abbrev pub system-checks : Header → (ℕ → ℕ → ℤ) → (ℕ → ℤ) → List Check
+system-checks h G B = (8, ltb 0 (heavy-row h G)) ∷ (9, ltb 0 (large-row h B)) ∷ []
+
+-- the row given with a refusal c: that of 8 or of 9, and 0 with every other number
+abbrev pub row-given : (c : ℕ) (h : Header) (G : ℕ → ℕ → ℤ) (B : ℕ → ℤ) → ℕ
+row-given c h G B = cond (eqb c 8) (heavy-row h G) (cond (eqb c 9) (large-row h B) 0)
+
+-- the refusal, and the row given with it
+abbrev pub system-verdict : Header → (ℕ → ℕ → ℤ) → (ℕ → ℤ) → Verdict
+system-verdict h G B =
+    record {
+      refusal = first-refusal (system-checks h G B);
+      row = row-given (first-refusal (system-checks h G B)) h G B;
+    }
