@@ -9,9 +9,8 @@ use Rattle.integers.specs.Flat.{at, list-from}
 use Rattle.integers.proofs.Flat.{length-list-from, getD-list-from}
 use Rattle.integers.specs.Sum.{dot, weight}
 use Rattle.integers.proofs.Product.{dot-ext}
-use Rattle.job.specs.Header.{radix, unit}
+use Rattle.job.specs.Header.{radix, unit, Limits}
 use Rattle.job.specs.Kind.{kind-of}
-use Rattle.job.specs.Limits.{Limits}
 use Rattle.job.proofs.Limits.{radix-least, unit-least, inner-least, digit-positive, last-small}
 use Rattle.job.specs.Rules.{last-step, inner-unit, bound-over, bound-under}
 use Rattle.system.specs.System.{matrix-of, right-side-of}
@@ -20,9 +19,7 @@ use Rattle.frame.specs.Frame.{frame-refusal, frame-numbers}
 use Rattle.header.specs.Header.{header-of}
 use Rattle.frame.proofs.Valid.{accepted-frame}
 use Rattle.frame.specs.Theorems.{ValidJob}
-use Rattle.recurrence.specs.Selection.{select}
-use Rattle.recurrence.specs.Light.{LightRows}
-use Rattle.recurrence.specs.Recurrence.{reading}
+use Rattle.recurrence.specs.Recurrence.{select, LightRows, reading}
 use Rattle.recurrence.proofs.Theorems.{steps-run, identity, select-distance, short}
 use Rattle.curve.proofs.Value.{kind-value}
 use Rattle.state.specs.State.{digits-of, fresh}
@@ -35,8 +32,7 @@ use Rattle.evaluator.proofs.Kept.{loaded-passes}
 use Rattle.evaluator.proofs.Theorems.{refused-readings}
 use Rattle.stepping.proofs.Steps.{steps-header, steps-k}
 use Rattle.stepping.proofs.Follow.{fresh-follows, follows-steps}
-use Rattle.accuracy.specs.Calls.{Call, budgets}
-use Rattle.accuracy.specs.Accuracy.{after, Accurate, EveryFrameAccurate}
+use Rattle.accuracy.specs.Accuracy.{Call, budgets, after, Accurate, EveryFrameAccurate}
 use Rattle.accuracy.proofs.Runs.{smaller-within, run-is}
 
 -- ---- laws over plain numbers

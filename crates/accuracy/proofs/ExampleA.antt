@@ -13,13 +13,11 @@ use Rattle.system.specs.Rows.{first-row-from}
 use Rattle.system.specs.System.{curve-entry, matrix, right-side}
 use Rattle.frame.specs.Frame.{frame-checks, frame-refusal}
 use Rattle.stepping.specs.Steps.{stepped-digits, stepped-residuals, steps, one-step}
-use Rattle.recurrence.specs.Recurrence.{shifted, next-digit, next-residual, digit, residual, reading}
-use Rattle.recurrence.specs.Selection.{select, digit-size}
+use Rattle.recurrence.specs.Recurrence.{shifted, next-digit, next-residual, digit, residual, reading, select, digit-size}
 use Rattle.state.specs.State.{beyond, fresh, breaks-limit}
 use Rattle.evaluator.specs.Evaluator.{loaded, advanced, advance-checks, steps-made, readings-checks, readings-refusal, readings-list}
-use Rattle.accuracy.specs.Calls as calls
-use Rattle.accuracy.specs.Calls.{Call, advance, readings}
-use Rattle.accuracy.specs.Accuracy.{ExactValues, G, b, after, true-digit}
+use Rattle.accuracy.specs.Accuracy as calls
+use Rattle.accuracy.specs.Accuracy.{Call, advance, readings, ExactValues, G, b, after, true-digit}
 use Rattle.evaluator.proofs.ExamplePastOrder.{frame-A}
 
 -- ---- A: polynomial, x 4, p 3 and 8, over 16; four steps

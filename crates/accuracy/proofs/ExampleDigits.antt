@@ -8,8 +8,7 @@ use lib.IntN.{ℤ, pos, negsuc}
 use Rattle.integers.specs.Flat.{at}
 use Rattle.bitfields.specs.Layout.{field, number, bits}
 use Rattle.recurrence.specs.Recurrence.{reading}
-use Rattle.accuracy.specs.Calls.{Call, budgets}
-use Rattle.accuracy.specs.Accuracy.{Accurate, after, held-digit, true-digit, Y}
+use Rattle.accuracy.specs.Accuracy.{Call, budgets, Accurate, after, held-digit, true-digit, Y}
 use Rattle.evaluator.proofs.ExamplePastOrder.{frame-A}
 use Rattle.accuracy.proofs.ExampleA.{calls-A, one-step-A, two-steps-A, digits-A}
 

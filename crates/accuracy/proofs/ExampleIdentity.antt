@@ -10,8 +10,7 @@ use Rattle.bitfields.specs.Layout.{field, number, bits, values-from}
 use Rattle.bitfields.specs.Twos.{decode}
 use Rattle.system.specs.System.{curve-entry, matrix, right-side}
 use Rattle.recurrence.specs.Recurrence.{reading}
-use Rattle.accuracy.specs.Calls.{Call}
-use Rattle.accuracy.specs.Accuracy.{Accurate, after, held-digit, true-digit}
+use Rattle.accuracy.specs.Accuracy.{Call, Accurate, after, held-digit, true-digit}
 use Rattle.evaluator.proofs.ExamplePastOrder.{frame-A}
 use Rattle.accuracy.proofs.ExampleA.{one-step-A, two-steps-A, digit-1-A, digit-2-A}
 use Rattle.accuracy.proofs.ExampleDigits.{steps-one, steps-two, held-A}

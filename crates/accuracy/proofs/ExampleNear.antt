@@ -11,8 +11,7 @@ use Rattle.integers.specs.Sum.{sum}
 use Rattle.bitfields.specs.Layout.{field, number, bits, values-from}
 use Rattle.bitfields.specs.Twos.{decode}
 use Rattle.curve.specs.Curve.{numerator-value, denominator-value, has-value}
-use Rattle.accuracy.specs.Calls.{Call}
-use Rattle.accuracy.specs.Accuracy.{Accurate, ExactValues, kind, Y}
+use Rattle.accuracy.specs.Accuracy.{Call, Accurate, ExactValues, kind, Y}
 use Rattle.evaluator.proofs.ExamplePastOrder.{frame-A}
 use Rattle.accuracy.proofs.ExampleA.{calls-A, values-A, exact-A}
 use Rattle.accuracy.proofs.ExampleDigits.{steps-A, spelt-A}

@@ -14,12 +14,11 @@ use Rattle.system.specs.Rows.{first-row-from}
 use Rattle.system.specs.System.{curve-entry, matrix, right-side}
 use Rattle.frame.specs.Frame.{frame-checks}
 use Rattle.stepping.specs.Steps.{stepped-digits, stepped-residuals, steps, one-step}
-use Rattle.recurrence.specs.Recurrence.{digit, residual, shifted, next-digit, next-residual, reading}
-use Rattle.recurrence.specs.Selection.{select, digit-size}
+use Rattle.recurrence.specs.Recurrence.{digit, residual, shifted, next-digit, next-residual, reading, select, digit-size}
 use Rattle.state.specs.State.{beyond, fresh, breaks-limit}
 use Rattle.evaluator.specs.Evaluator.{loaded, advanced, advance-checks, steps-made, readings-checks, readings-list}
-use Rattle.accuracy.specs.Calls as calls
-use Rattle.accuracy.specs.Calls.{Call, advance, readings, budgets}
+use Rattle.accuracy.specs.Accuracy as calls
+use Rattle.accuracy.specs.Accuracy.{Call, advance, readings, budgets}
 use Rattle.accuracy.specs.Perform.{room-of, calls-of, room-of-all, parts-after, Untouched, Performed}
 use Rattle.accuracy.specs.declared.Evaluated.{Evaluated}
 use Rattle.evaluator.proofs.ExamplePastOrder.{frame-A}

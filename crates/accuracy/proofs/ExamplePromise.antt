@@ -10,8 +10,7 @@ use Rattle.bitfields.specs.Twos.{decode}
 use Rattle.system.specs.Rows.{first-row-from}
 use Rattle.system.specs.System.{curve-entry, matrix, right-side}
 use Rattle.frame.specs.Frame.{frame-checks}
-use Rattle.accuracy.specs.Calls.{advance, readings, budgets}
-use Rattle.accuracy.specs.Accuracy.{after}
+use Rattle.accuracy.specs.Accuracy.{advance, readings, budgets, after}
 use Rattle.accuracy.specs.Promise.{Promise}
 use Rattle.accuracy.specs.declared.Evaluated.{Evaluated}
 use Rattle.evaluator.proofs.ExamplePastOrder.{frame-A}

@@ -9,8 +9,7 @@ use Rattle.integers.specs.Flat.{at}
 use Rattle.bitfields.specs.Layout.{field, number, bits}
 use Rattle.recurrence.specs.Recurrence.{reading}
 use Rattle.evaluator.specs.Evaluator.{readings-list}
-use Rattle.accuracy.specs.Calls.{Call, advance, readings, budgets}
-use Rattle.accuracy.specs.Accuracy.{Accurate, after, true-digit}
+use Rattle.accuracy.specs.Accuracy.{Call, advance, readings, budgets, Accurate, after, true-digit}
 use Rattle.evaluator.proofs.ExamplePastOrder.{frame-A}
 use Rattle.accuracy.proofs.ExampleA.{lent-A, two-steps-A, middle-A, end-A, mixed-A, digit-1-A, digit-2-A, readings-A}
 

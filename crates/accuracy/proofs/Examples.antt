@@ -16,14 +16,12 @@ use Rattle.system.specs.Rows.{first-row-from}
 use Rattle.system.specs.System.{curve-entry, matrix, right-side}
 use Rattle.frame.specs.Frame.{frame-checks, frame-refusal}
 use Rattle.stepping.specs.Steps.{stepped-digits, stepped-residuals, steps, one-step}
-use Rattle.recurrence.specs.Recurrence.{shifted, next-digit, next-residual, reading}
-use Rattle.recurrence.specs.Selection.{select, digit-size}
+use Rattle.recurrence.specs.Recurrence.{shifted, next-digit, next-residual, reading, select, digit-size}
 use Rattle.curve.specs.Curve.{numerator-value, denominator-value}
 use Rattle.state.specs.State.{beyond, fresh, breaks-limit}
 use Rattle.evaluator.specs.Evaluator.{loaded, advanced, advance-checks, steps-made, readings-list}
-use Rattle.accuracy.specs.Calls as calls
-use Rattle.accuracy.specs.Calls.{Call, advance}
-use Rattle.accuracy.specs.Accuracy.{Accurate, ExactValues, after, held-digit, Y}
+use Rattle.accuracy.specs.Accuracy as calls
+use Rattle.accuracy.specs.Accuracy.{Call, advance, Accurate, ExactValues, after, held-digit, Y}
 use Rattle.accuracy.proofs.Demand3.{accurate}
 use Rattle.evaluator.proofs.ExamplePastOrder.{frame-A}
 use Rattle.accuracy.proofs.ExampleA.{calls-A, one-step-A, two-steps-A, lent-A, middle-A, end-A, accepted-A}

@@ -23,7 +23,7 @@ use Rattle.evaluator.specs.Evaluator.{smaller, steps-made, advanced, state-read
 use Rattle.evaluator.specs.declared.Advanced.{Advanced}
 use Rattle.stepping.proofs.Steps.{steps-header}
 use Rattle.evaluator.proofs.Theorems.{readings-decided, refused-readings, readings-past, advanced-passes}
-use Rattle.accuracy.specs.Calls.{Call, advance, readings, state-after, run}
+use Rattle.accuracy.specs.Accuracy.{Call, advance, readings, state-after, run}
 use Rattle.accuracy.specs.Perform.{call-of, room-of, calls-of, room-of-all, part-after, parts-after, list-after, Untouched}
 use Rattle.accuracy.specs.declared.calls.Made.{Made}
 use Rattle.accuracy.proofs.Runs.{smaller-left, smaller-right}

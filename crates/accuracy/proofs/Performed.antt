@@ -17,8 +17,7 @@ use Rattle.stepping.specs.Steps.{steps}
 use Rattle.evaluator.specs.declared.Loaded.{Loaded}
 use Rattle.evaluator.proofs.Kept.{fresh-start, loaded-passes}
 use Rattle.evaluator.proofs.Theorems.{accepted-load}
-use Rattle.accuracy.specs.Accuracy.{order, after}
-use Rattle.accuracy.specs.Calls.{Call, readings, run}
+use Rattle.accuracy.specs.Accuracy.{order, after, Call, readings, run}
 use Rattle.accuracy.specs.Perform.{calls-of, room-of-all, list-after, Performed}
 use Rattle.accuracy.proofs.Demand3.{accurate}
 use Rattle.accuracy.proofs.Parts.{run-header, run-passes, readings-taken, at-part, kept-word}

@@ -15,8 +15,7 @@ use Rattle.job.specs.declared.Header.{Header}
 use Rattle.frame.specs.Frame.{frame-refusal, frame-numbers}
 use Rattle.header.specs.Header.{header-of}
 use Rattle.recurrence.specs.Recurrence.{reading}
-use Rattle.state.specs.State.{digits-of, fresh, state-checks, state-last}
-use Rattle.state.specs.PassesLimits.{PassesLimits}
+use Rattle.state.specs.State.{digits-of, fresh, state-checks, state-last, PassesLimits}
 use Rattle.state.specs.Inner.{state-of}
 use Rattle.state.specs.declared.State.{State}
 use Rattle.evaluator.specs.Evaluator.{loaded, smaller, state-reading, readings-refusal, readings-list}
@@ -31,8 +30,7 @@ use Rattle.stepping.proofs.Steps.{steps-header, steps-k}
 use Rattle.evaluator.proofs.Horner.{may-read-rows}
 use Rattle.stepping.proofs.Stepping.{fresh-whole}
 use Rattle.evaluator.proofs.Theorems.{accepted-load}
-use Rattle.accuracy.specs.Accuracy.{after}
-use Rattle.accuracy.specs.Calls.{run, budgets, advances, readings}
+use Rattle.accuracy.specs.Accuracy.{after, run, budgets, advances, readings}
 use Rattle.accuracy.specs.Promise.{Promise}
 use Rattle.accuracy.proofs.Demand3.{accurate}
 use Rattle.accuracy.proofs.Runs.{run-is, allowed-most}

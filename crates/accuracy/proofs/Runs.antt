@@ -20,7 +20,7 @@ use Rattle.state.specs.declared.State.{State}
 use Rattle.stepping.specs.Steps.{steps}
 use Rattle.evaluator.specs.Evaluator.{smaller, advanced, advance-checks, steps-made}
 use Rattle.stepping.proofs.Steps.{steps-header, steps-k, steps-add}
-use Rattle.accuracy.specs.Calls.{Call, advance, readings, run, budgets, advances}
+use Rattle.accuracy.specs.Accuracy.{Call, advance, readings, run, budgets, advances}
 
 -- ---- the smaller of two numbers
 

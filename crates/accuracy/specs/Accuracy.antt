@@ -1,27 +1,46 @@
 -- Demand 3: what holds after every list of calls from the fresh load of an accepted frame. It is one
 -- statement, `Accurate frame calls`, made of document 01's definitions.
-use mathlib.Core.Path.{_≡_}
-use mathlib.Core.Bool.{true}
-use mathlib.Core.List.{List, _∷_, _++_}
-use Prim.Native.Nat.{ℕ, _*_, _-_, _^_, _<_, _≤_}
-use lib.IntN.{ℤ, pos, natAbs, _+ℤ_, _-ℤ_, _*ℤ_}
-use lib.ListN.{length}
-use Rattle.integers.specs.Flat.{at}
-use Rattle.integers.specs.Sum.{dot}
-use Rattle.job.specs.Header.{radix, unit}
-use Rattle.job.specs.Kind.{Kind, kind-of}
-use Rattle.job.specs.Rules.{last-step, inner-unit}
+use mathlib.Core.{Path._≡_, Bool.true, List.List, List._∷_, List._++_, List.[], List.map}
+use Prim.Native.Nat.{ℕ, _*_, _-_, _^_, _<_, _≤_, _+_}
+use lib.{IntN.ℤ, IntN.pos, IntN.natAbs, IntN._+ℤ_, IntN._-ℤ_, IntN._*ℤ_, ListN.length}
+use Rattle.integers.specs.{Flat.at, Sum.dot}
+use Rattle.job.specs.{Header.radix, Header.unit, Kind.Kind, Kind.kind-of, Rules.last-step, Rules.inner-unit}
 use Rattle.system.specs.System.{matrix-of, right-side-of}
 use Rattle.header.specs.Header.{header-of}
 use Rattle.frame.specs.Frame.{frame-numbers, frame-refusal}
-use Rattle.recurrence.specs.Recurrence.{reading}
-use Rattle.recurrence.specs.Equations.{Solves}
+use Rattle.recurrence.specs.Recurrence.{reading, Solves}
 use Rattle.curve.specs.Curve.{has-value, value-over, value-under, CurveValue}
-use Rattle.state.specs.State.{all-steps, digits-of}
-use Rattle.state.specs.declared.State.{State}
-use Rattle.evaluator.specs.Evaluator.{loaded, smaller, readings-refusal, readings-list}
+use Rattle.state.specs.{State.all-steps, State.digits-of, declared.State.State}
+use Rattle.evaluator.specs.Evaluator.{loaded, smaller, readings-refusal, readings-list, advanced}
 use Rattle.stepping.specs.Steps.{job-digit}
-use Rattle.accuracy.specs.Calls.{Call, readings, run, budgets}
+
+-- ---- lists of calls (document 01, "Calls"): advance and readings in any order, made of the very
+-- definitions that the contracts of advance and readings cite
+
+-- a call: advance with a budget, or readings with a lent list of any length and contents
+pub data Call : Type 0 where
+  advance : ℕ → Call
+  readings : List ℤ → Call
+
+-- the state that a call gives back or leaves
+abbrev pub state-after : State → Call → State
+state-after s (advance budget) = advanced s budget .state
+state-after s (readings out) = s
+
+-- the state after a list of calls: each gets what the call before gave back or left
+unfoldable pub run : State → List Call → State
+run s [] = s
+run s (c ∷ cs) = run (state-after s c) cs
+
+-- the sum of the budgets, those of refused advances too
+unfoldable pub budgets : List Call → ℕ
+budgets [] = 0
+budgets (advance budget ∷ cs) = budget + budgets cs
+budgets (readings out ∷ cs) = budgets cs
+
+-- an advance for each budget
+abbrev pub advances : List ℕ → List Call
+advances budgets = map advance budgets
 
 -- ---- a frame's job: the kind, the order n, the radix r, the largest digit p, the unit u = 2^f of its
 -- numbers, the unit of the residuals inside its states, the last step

@@ -1,4 +1,3 @@
-pub mod Calls
 pub mod Accuracy
 pub mod Promise
 pub mod Perform

@@ -1,16 +1,12 @@
 -- What `evaluate` of src/lib.rt ensures: its answer and every word of its list are the definitions', and
 -- demand 3 holds of the calls that it stands for.
-use mathlib.Core.Path.{_≡_}
-use mathlib.Core.List.{List, [], _∷_, _++_}
+use mathlib.Core.{Path._≡_, List.List, List.[], List._∷_, List._++_}
 use Prim.Native.Nat.{ℕ, _<_}
-use lib.IntN.{ℤ}
-use lib.ListN.{length}
+use lib.{IntN.ℤ, ListN.length}
 use Rattle.frame.specs.Frame.{frame-refusal, frame-row, frame-numbers}
 use Rattle.header.specs.Header.{header-of}
 use Rattle.evaluator.specs.Evaluator.{readings-refusal, readings-list}
-use Rattle.accuracy.specs.Accuracy.{after, Accurate}
-use Rattle.accuracy.specs.Calls.{readings, advances}
-use Rattle.accuracy.specs.declared.Evaluated.{Evaluated}
+use Rattle.accuracy.specs.{Accuracy.after, Accuracy.Accurate, Accuracy.readings, Accuracy.advances, declared.Evaluated.Evaluated}
 
 -- the answer to a refused frame: its number and row, and no step made
 abbrev pub refused-evaluated : List ℕ → Evaluated

@@ -4,15 +4,8 @@
 ghost use mathlib.Core.Path.{_≡_};
 ghost use mathlib.Core.List.{_++_};
 ghost use lib.ListN.{drop};
-ghost use Rattle.accuracy.specs.Calls.{state-after, run};
-ghost use Rattle.accuracy.specs.Perform.{
-  call-of,
-  room-of,
-  calls-of,
-  part-after,
-  list-after,
-  Performed,
-};
+ghost use Rattle.accuracy.specs.Accuracy.{state-after, run};
+ghost use Rattle.accuracy.specs.Perform.{call-of, room-of, calls-of, part-after, list-after, Performed};
 use crate::Evaluated;
 use state::State;
 

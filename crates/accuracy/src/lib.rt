@@ -5,7 +5,7 @@
 ghost use mathlib.Core.Path.{_≡_};
 ghost use Prim.Native.Nat.{_≤_};
 ghost use Rattle.evaluator.specs.Evaluator.{smaller};
-ghost use Rattle.accuracy.specs.Calls.{budgets, advances};
+ghost use Rattle.accuracy.specs.Accuracy.{budgets, advances};
 ghost use Rattle.accuracy.specs.Promise.{Promise};
 
 mod calls; // calls.rt: a list of calls, made one by one

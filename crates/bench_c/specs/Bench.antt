@@ -1,15 +1,10 @@
 -- What the functions for the bench give and leave, cited by the contracts of src/lib.rt. The state of a
 -- refused load and the record of a refused trace have zeros.
-use mathlib.Core.Path.{_≡_}
-use mathlib.Core.Bool.{cond}
-use mathlib.Core.List.{List}
+use mathlib.Core.{Path._≡_, Bool.cond, List.List}
 use Prim.Native.Nat.{ℕ, zero, suc}
-use lib.Dec.{ltb}
-use lib.IntN.{ℤ, pos}
-use lib.ListN.{length}
+use lib.{Dec.ltb, IntN.ℤ, IntN.pos, ListN.length}
 use Rattle.integers.specs.Flat.{at, entry}
-use Rattle.trace.specs.Trace.{trace-writer-answer, trace-writer-buffer}
-use Rattle.trace.specs.declared.Record.{Record}
+use Rattle.trace.specs.{Trace.trace-writer-answer, Trace.trace-writer-buffer, declared.Record.Record}
 
 -- an entry of G, or past column 15 the residual of the row; 0 past row 15
 unfoldable pub probed : (g z : List ℤ) (row column : ℕ) → ℤ

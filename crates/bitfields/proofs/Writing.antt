@@ -111,9 +111,6 @@ pub put-written : {s : List ℕ} {fs : List Field} (gs : List Field) → Bytes s
 put-written {s} {fs} gs k h =
     rw (← put-zero s fs, ← put-zero s (fs ++ gs)) (sym (rw zero-add at (put-append 0 gs k h)))
 
-pub length-written : (s : List ℕ) (fs : List Field) → bits fs ≤ 8 * length s → length (written s fs) ≡ length s
-length-written s fs h = rw (← put-zero s fs) (length-put s 0 fs (omega arith))
-
 pub take-written : (s : List ℕ) (fs : List Field) → take (bytes-for (bits fs)) (written s fs) ≡ write fs
 unfolding written
 take-written s fs = take-at (write fs) (drop (bytes-for (bits fs)) s) (bytes-for (bits fs)) (length-write fs)

@@ -1,8 +1,7 @@
 -- Bit fields of a byte list, most significant bit first: what number a list of fields spells, which bytes
 -- hold it, and which fields a byte list has. A format is a list of widths and no more; the bits go by way of
 -- one number, so that a field is a quotient and a remainder.
-use mathlib.Core.Path.{_≡_}
-use mathlib.Core.List.{List, [], _∷_, _++_, map}
+use mathlib.Core.{Path._≡_, List.List, List.[], List._∷_, List._++_, List.map}
 use Prim.Native.Nat.{ℕ, zero, suc, _+_, _-_, _*_, _/_, _%_, _^_, _<_}
 use lib.ListN.{length, getD, drop}
 

@@ -1,11 +1,9 @@
 -- The round trips, for every list of widths and so for every format, and for every number.
 -- `proofs/RoundTrip.antt` and `proofs/Twos.antt` have a proof of each.
-use mathlib.Core.Path.{_≡_}
-use mathlib.Core.List.{List}
+use mathlib.Core.{Path._≡_, List.List}
 use Prim.Native.Nat.{ℕ, _^_, _<_}
 use lib.IntN.{ℤ}
-use Rattle.bitfields.specs.Layout.{Field, widths, Fit, Bytes, fields, Framed, write}
-use Rattle.bitfields.specs.Twos.{encode, decode, Fits}
+use Rattle.bitfields.specs.{Layout.Field, Layout.widths, Layout.Fit, Layout.Bytes, Layout.fields, Layout.Framed, Layout.write, Twos.encode, Twos.decode, Twos.Fits}
 
 -- Fields that fit, written and read, are the same fields, and the bytes are as long as their widths demand.
 abbrev pub FieldsWriteRead : List Field → Type 0

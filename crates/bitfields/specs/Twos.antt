@@ -1,12 +1,8 @@
 -- Whole numbers with a sign in w bits, by two's complement. `mag z` is n both for n and for -(n + 1), so that
 -- a range is one bound.
-use mathlib.Core.List.{List, map}
-use mathlib.Core.Bool.{Bool, cond}
+use mathlib.Core.{List.List, List.map, Bool.Bool, Bool.cond}
 use Prim.Native.Nat.{ℕ, suc, _-_, _^_, _<_}
-use lib.IntN.{ℤ, pos, negsuc}
-use lib.Signed.{mag}
-use lib.Dec.{ltb}
-use lib.ListN.{length, getD}
+use lib.{IntN.ℤ, IntN.pos, IntN.negsuc, Signed.mag, Dec.ltb, ListN.length, ListN.getD}
 use Rattle.bitfields.specs.Layout.{values-from}
 
 -- The w bits that stand for z: a negative z is counted back from 2 ^ w.

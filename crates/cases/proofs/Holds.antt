@@ -8,8 +8,7 @@ use Rattle.system.specs.Rows.{first-row-from}
 use Rattle.system.specs.System.{curve-entry, system-entry, matrix, right-side}
 use Rattle.frame.specs.Frame.{frame-checks}
 use Rattle.stepping.specs.Steps.{stepped-digits, stepped-residuals, steps, one-step}
-use Rattle.recurrence.specs.Recurrence.{shifted, next-digit, next-residual, reading}
-use Rattle.recurrence.specs.Selection.{select, digit-size}
+use Rattle.recurrence.specs.Recurrence.{shifted, next-digit, next-residual, reading, select, digit-size}
 use Rattle.state.specs.State.{beyond, fresh, idle-state, breaks-limit}
 use Rattle.evaluator.specs.Evaluator.{loaded, advanced, advance-checks, steps-made}
 use Rattle.trace.specs.Trace.{digit-list, digit-array, state-record}

@@ -1,18 +1,13 @@
 -- Document 01's cases as one table, marked * or not: what the definitions make of each frame, and the exact
 -- values of its system (claim C10). The statements are proved in proofs/Holds.antt and proofs/Values.antt,
 -- and the program of src/ makes the calls and compares.
-use mathlib.Core.Path.{_≡_}
-use mathlib.Core.Bool.{cond}
-use mathlib.Core.List.{List, [], _∷_, List·Memᴰ, map}
+use mathlib.Core.{Path._≡_, Bool.cond, List.List, List.[], List._∷_, List.List·Memᴰ, List.map}
 use Prim.Native.Nat.{ℕ, zero, suc, _<_}
-use lib.Dec.{eqb}
-use lib.IntN.{ℤ, pos, negℤ}
-use lib.ListN.{length, replicate}
+use lib.{Dec.eqb, IntN.ℤ, IntN.pos, IntN.negℤ, ListN.length, ListN.replicate}
 use Rattle.integers.specs.Flat.{at, list-from}
 use Rattle.bitfields.specs.Layout.{write}
 use Rattle.frame.specs.Frame.{frame-numbers}
-use Rattle.state.specs.State.{all-steps, digits-of}
-use Rattle.state.specs.declared.State.{State}
+use Rattle.state.specs.{State.all-steps, State.digits-of, declared.State.State}
 use Rattle.evaluator.specs.Evaluator.{loaded, advanced, state-reading}
 use Rattle.trace.specs.Trace.{record-fields, state-record}
 use Rattle.accuracy.specs.Accuracy.{order, ExactValues}

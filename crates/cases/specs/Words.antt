@@ -1,13 +1,9 @@
 -- What the contracts of the program cite; a reader of the promises can skip it: the table of cases as words,
 -- which is how the program has it. The rows stand one after the other, and before each list how many words it
 -- has.
-use mathlib.Core.Path.{_≡_}
-use mathlib.Core.Bool.{cond}
-use mathlib.Core.List.{List, [], _∷_, _++_, map, flatMap}
+use mathlib.Core.{Path._≡_, Bool.cond, List.List, List.[], List._∷_, List._++_, List.map, List.flatMap}
 use Prim.Native.Nat.{ℕ, zero, suc, _+_, _/_, _%_, _<_, _≤_}
-use lib.Dec.{ltb}
-use lib.IntN.{ℤ, pos}
-use lib.ListN.{length, getD, take, drop, replicate}
+use lib.{Dec.ltb, IntN.ℤ, IntN.pos, ListN.length, ListN.getD, ListN.take, ListN.drop, ListN.replicate}
 use Rattle.integers.specs.Flat.{at}
 use Rattle.cases.specs.Table.{Case, table}
 

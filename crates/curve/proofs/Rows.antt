@@ -13,7 +13,7 @@ use Rattle.integers.specs.Sum.{dot}
 use Rattle.integers.proofs.Product.{dot-suc}
 use Rattle.integers.proofs.Sum.{sum-two}
 use Rattle.system.specs.System.{curve-entry, past-first}
-use Rattle.recurrence.specs.Equations.{Solves}
+use Rattle.recurrence.specs.Recurrence.{Solves}
 use Rattle.curve.proofs.Differences.{Differences}
 
 -- ---- the entries of row i

@@ -16,7 +16,7 @@ use Rattle.integers.proofs.Product.{entry-le-weight}
 use Rattle.integers.proofs.Sum.{sum-none}
 use Rattle.job.specs.Kind.{polynomial, rational, system, unused}
 use Rattle.system.specs.System.{curve-entry, past-first, argument, numerator, denominator, no-denominator, matrix, right-side}
-use Rattle.recurrence.specs.Equations.{Solves}
+use Rattle.recurrence.specs.Recurrence.{Solves}
 use Rattle.recurrence.proofs.Equations.{solves-ext}
 use Rattle.curve.specs.Curve.{numerator-value, denominator-value, RationalValue, PolynomialValue, KindValue}
 use Rattle.curve.proofs.Horner.{horner, horner-small, numerator-horner, denominator-horner}

@@ -1,15 +1,12 @@
 -- The value of a curve as a fraction P / Q of whole numbers, and what is promised of it (document 01, "The
 -- system" and "One step"). proofs/Value.antt proves each statement, proofs/Examples.antt spells them out.
-use mathlib.Core.Path.{_≡_}
-use mathlib.Core.Bool.{Bool, true, false}
-use mathlib.Core.List.{List}
+use mathlib.Core.{Path._≡_, Bool.Bool, Bool.true, Bool.false, List.List}
 use Prim.Native.Nat.{ℕ, suc, _*_, _-_, _<_, _≤_}
-use lib.IntN.{ℤ, pos, _+ℤ_, _*ℤ_}
-use lib.Signed.{_<ℤ_}
+use lib.{IntN.ℤ, IntN.pos, IntN._+ℤ_, IntN._*ℤ_, Signed._<ℤ_}
 use Rattle.integers.specs.Sum.{_^ℤ_, weight, sum}
 use Rattle.job.specs.Kind.{Kind, polynomial, rational, system, unused}
 use Rattle.system.specs.System.{past-first, curve-entry, argument, numerator, denominator, no-denominator, matrix, right-side}
-use Rattle.recurrence.specs.Equations.{Solves}
+use Rattle.recurrence.specs.Recurrence.{Solves}
 
 -- The numbers x, p_i and q_i are in units of 1/u: they stand for x/u, p_i/u and q_i/u. So the curve is
 --

@@ -14,7 +14,7 @@ use lib.Signed.{mag}
 use mir.Syntax.{w8}
 use mir.Val.{toZ, ofZ}
 use Rattle.integers.specs.Flat.{at, list-from}
-use Rattle.job.specs.Limits.{Limits}
+use Rattle.job.specs.Header.{Limits}
 use Rattle.job.proofs.Refusal.{decided, refused-before, accepted-before}
 use Rattle.job.proofs.Limits.{digit-small, steps-small, trace-small}
 use Rattle.job.specs.Rules.{trace-steps}

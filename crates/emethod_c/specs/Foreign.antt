@@ -1,23 +1,14 @@
 -- What each call of the C interface answers, and what it leaves in lent memory: the contracts of src/lib.rt
 -- are equalities with these. emethod.h says the same to a caller in C.
-use mathlib.Core.Path.{_≡_}
-use mathlib.Core.Bool.{cond}
-use mathlib.Core.List.{List, [], _∷_, _++_, map}
+use mathlib.Core.{Path._≡_, Bool.cond, List.List, List.[], List._∷_, List._++_, List.map}
 use Prim.Native.Nat.{ℕ, _+_, _*_, _%_, _^_, _≤_}
-use lib.Dec.{ltb, eqb}
-use lib.IntN.{ℤ, pos}
-use lib.ListN.{length, drop}
-use Rattle.job.specs.Header.{count}
-use Rattle.job.specs.Refusal.{Check, first-refusal, Decides}
-use Rattle.job.specs.declared.Header.{Header}
+use lib.{Dec.ltb, Dec.eqb, IntN.ℤ, IntN.pos, ListN.length, ListN.drop}
+use Rattle.job.specs.{Header.count, Refusal.Check, Refusal.first-refusal, Refusal.Decides, declared.Header.Header}
 use Rattle.header.specs.Header.{header-of}
 use Rattle.frame.specs.declared.FrameWritten.{FrameWritten}
 use Rattle.evaluator.specs.Evaluator.{loaded, advanced}
-use Rattle.trace.specs.Trace.{digit-list, trace-checks, trace-refusal, trace-record, record-answer, trace-writer-answer, trace-writer-buffer}
-use Rattle.trace.specs.declared.Record.{Record}
-use Rattle.trace.specs.declared.TraceWritten.{TraceWritten}
-use Rattle.accuracy.specs.Promise.{Promise}
-use Rattle.accuracy.specs.declared.Evaluated.{Evaluated}
+use Rattle.trace.specs.{Trace.digit-list, Trace.trace-checks, Trace.trace-refusal, Trace.trace-record, Trace.record-answer, Trace.trace-writer-answer, Trace.trace-writer-buffer, declared.Record.Record, declared.TraceWritten.TraceWritten}
+use Rattle.accuracy.specs.{Promise.Promise, declared.Evaluated.Evaluated}
 
 -- ---- answers: a refusal, a row and a count in one number
 

@@ -7,7 +7,7 @@ ghost use Prim.Native.Nat.{_+_, _<_, _≤_};
 ghost use lib.IntN.{pos};
 ghost use lib.ListN.{length, getD, drop};
 ghost use lib.Seq.{sets};
-ghost use Rattle.job.specs.Limits.{Limits};
+ghost use Rattle.job.specs.Header.{Limits};
 ghost use Rattle.job.specs.Rules.{trace-steps};
 ghost use Rattle.frame.specs.Frame.{frame-writer-answer, frame-writer-buffer};
 ghost use Rattle.trace.specs.Inner.{digits-from};

@@ -14,8 +14,7 @@ use Rattle.integers.specs.Flat.{list-from}
 use Rattle.integers.proofs.Maximum.{le-or-lt}
 use Rattle.job.specs.Refusal.{Check, first-refusal, None, none, also}
 use Rattle.job.proofs.Refusal.{numbered, accepted-exactly, refused-before, accepted-before}
-use Rattle.state.specs.PassesLimits.{PassesLimits}
-use Rattle.state.specs.State.{state-checks, state-last}
+use Rattle.state.specs.State.{PassesLimits, state-checks, state-last}
 use Rattle.state.specs.declared.State.{State}
 use Rattle.evaluator.specs.Evaluator.{no-budget, all-made, smaller, advance-checks, advance-refusal, steps-made, advanced, state-reading, readings-list-too-short, readings-checks, readings-refusal, readings-list}
 use Rattle.stepping.specs.Steps.{steps}

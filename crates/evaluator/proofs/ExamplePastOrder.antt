@@ -14,10 +14,8 @@ use Rattle.system.specs.Rows.{first-row-from}
 use Rattle.system.specs.System.{curve-entry, matrix, right-side}
 use Rattle.frame.specs.Frame.{frame-checks}
 use Rattle.stepping.specs.Steps.{stepped-digits, stepped-residuals, steps, one-step}
-use Rattle.recurrence.specs.Recurrence.{shifted, next-digit, next-residual, reading}
-use Rattle.recurrence.specs.Selection.{select, digit-size}
-use Rattle.state.specs.State.{beyond, fresh, breaks-limit}
-use Rattle.state.specs.PastOrder.{SameBelow}
+use Rattle.recurrence.specs.Recurrence.{shifted, next-digit, next-residual, reading, select, digit-size}
+use Rattle.state.specs.State.{beyond, fresh, breaks-limit, SameBelow}
 use Rattle.state.specs.declared.State.{State}
 use Rattle.state.proofs.PastOrder.{overwritten, overwritten-below}
 use Rattle.evaluator.specs.Evaluator.{loaded, advanced, advance-checks, steps-made, readings-checks, readings-list, readings-refusal}

@@ -18,8 +18,7 @@ use Rattle.job.specs.Rules.{last-step}
 use Rattle.job.proofs.Limits.{radix-least, radix-most, last-bits, last-small}
 use Rattle.job.specs.declared.Header.{Header}
 use Rattle.recurrence.specs.Recurrence.{reading}
-use Rattle.state.specs.State.{digits-of}
-use Rattle.state.specs.PassesLimits.{PassesLimits}
+use Rattle.state.specs.State.{digits-of, PassesLimits}
 use Rattle.state.specs.declared.State.{State}
 use Rattle.evaluator.specs.Inner.{MayRead, MayReadRows}
 

@@ -10,8 +10,7 @@ use lib.IntN.{ℤ}
 use Rattle.job.specs.Refusal.{first-refusal}
 use Rattle.job.specs.Rules.{last-step}
 use Rattle.job.specs.declared.Header.{Header}
-use Rattle.state.specs.PassesLimits.{PassesLimits}
-use Rattle.state.specs.State.{fresh, breaks-limit, state-checks}
+use Rattle.state.specs.State.{PassesLimits, fresh, breaks-limit, state-checks}
 use Rattle.state.specs.declared.State.{State}
 use Rattle.state.proofs.PassesLimits.{passes-limits, fresh-passes}
 use Rattle.header.specs.Header.{header-of}

@@ -23,15 +23,12 @@ use Rattle.job.proofs.Refusal.{refused-before}
 use Rattle.system.specs.System.{matrix-of, right-side-of}
 use Rattle.job.specs.declared.Header.{Header}
 use Rattle.stepping.specs.Steps.{stepped-digits, stepped-residuals, last-digits, chosen-digits, residuals-left, one-step, steps}
-use Rattle.recurrence.specs.Recurrence.{shifted, next-digit, next-residual, reading}
-use Rattle.recurrence.specs.Selection.{select}
+use Rattle.recurrence.specs.Recurrence.{shifted, next-digit, next-residual, reading, select}
 use Rattle.stepping.proofs.Stepped.{filled-ext, length-stepped-residuals, stepped-residual-past}
 use Rattle.header.specs.Header.{header-of}
 use Rattle.frame.specs.Frame.{frame-numbers}
-use Rattle.state.specs.State.{all-steps, digits-of, state-last, idle-state, fresh, state-checks}
-use Rattle.state.specs.PassesLimits.{PassesLimits}
+use Rattle.state.specs.State.{all-steps, digits-of, state-last, idle-state, fresh, state-checks, PassesLimits, SameBelow}
 use Rattle.state.specs.declared.State.{State}
-use Rattle.state.specs.PastOrder.{SameBelow}
 use Rattle.state.proofs.PastOrder.{checked-alike}
 use Rattle.state.proofs.Lists.{list-from-alike, flat-vector-alike, stores-alike}
 use Rattle.evaluator.specs.Evaluator.{loaded, no-budget, all-made, advance-checks, advance-refusal, steps-made, advanced, readings-list-too-short, readings-checks, readings-refusal, readings-list}

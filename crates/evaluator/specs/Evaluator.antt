@@ -1,21 +1,15 @@
 -- The calls (document 01, "Calls"): load, advance and readings, as functions of all that goes in. Their
 -- contracts are equalities with these.
-use mathlib.Core.Bool.{Bool, cond}
-use mathlib.Core.List.{List, [], _∷_, _++_}
+use mathlib.Core.{Bool.Bool, Bool.cond, List.List, List.[], List._∷_, List._++_}
 use Prim.Native.Nat.{ℕ, _-_}
-use lib.Dec.{ltb, leb, eqb}
-use lib.IntN.{ℤ}
-use lib.ListN.{length, drop}
+use lib.{Dec.ltb, Dec.leb, Dec.eqb, IntN.ℤ, ListN.length, ListN.drop}
 use Rattle.integers.specs.Flat.{list-from}
-use Rattle.job.specs.Header.{radix}
-use Rattle.job.specs.Refusal.{Check, first-refusal}
+use Rattle.job.specs.{Header.radix, Refusal.Check, Refusal.first-refusal}
 use Rattle.frame.specs.Frame.{frame-refusal, frame-row, frame-numbers}
 use Rattle.header.specs.Header.{header-of}
 use Rattle.recurrence.specs.Recurrence.{reading}
-use Rattle.state.specs.State.{digits-of, idle-state, fresh, state-checks, state-last}
-use Rattle.state.specs.declared.State.{State}
-use Rattle.evaluator.specs.declared.Loaded.{Loaded}
-use Rattle.evaluator.specs.declared.Advanced.{Advanced}
+use Rattle.state.specs.{State.digits-of, State.idle-state, State.fresh, State.state-checks, State.state-last, declared.State.State}
+use Rattle.evaluator.specs.{declared.Loaded.Loaded, declared.Advanced.Advanced}
 use Rattle.stepping.specs.Steps.{steps}
 
 -- ---- load: refused as the frame is, 1 to 9

@@ -4,9 +4,7 @@ use Prim.Native.Nat.{ℕ, _-_, _^_, _<_, _≤_}
 use mathlib.Core.List.{List}
 use lib.IntN.{ℤ, natAbs}
 use Rattle.integers.specs.Flat.{entry}
-use Rattle.job.specs.Rules.{last-step}
-use Rattle.job.specs.Limits.{Limits}
-use Rattle.job.specs.declared.Header.{Header}
+use Rattle.job.specs.{Rules.last-step, Header.Limits, declared.Header.Header}
 
 -- row i may be read at step k
 pub record MayRead (ds : List ℤ) (i k r : ℕ) : Type 0 where

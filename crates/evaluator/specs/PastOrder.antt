@@ -6,16 +6,11 @@
 -- `SameBelow` of the crate state; then the call answers the same of both, and the states that come back
 -- differ there at most. That it does not change them: they are the same in the state that goes in and in the
 -- one that comes back, which is `SamePast`.
-use mathlib.Core.Path.{_≡_}
-use mathlib.Core.List.{List}
-use mathlib.Core.Logic.{_⊎_}
+use mathlib.Core.{Path._≡_, List.List, Logic._⊎_}
 use Prim.Native.Nat.{ℕ, _<_, _≤_}
-use lib.IntN.{ℤ, pos}
-use lib.ListN.{length}
+use lib.{IntN.ℤ, IntN.pos, ListN.length}
 use Rattle.integers.specs.Flat.{at, entry}
-use Rattle.state.specs.State.{all-steps}
-use Rattle.state.specs.declared.State.{State}
-use Rattle.state.specs.PastOrder.{SameBelow}
+use Rattle.state.specs.{State.all-steps, State.SameBelow, declared.State.State}
 use Rattle.evaluator.specs.Evaluator.{loaded, advanced, readings-refusal, readings-list}
 
 -- ---- what stands past the order: of the 16 rows and columns that the arrays have, G's entries in a row or a

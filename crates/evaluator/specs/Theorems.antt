@@ -2,18 +2,14 @@
 -- that the calls answer and leave what these definitions say, so each statement here is one about the
 -- calls. The proofs are in proofs/Theorems.antt and proofs/Kept.antt: `refused-load` is one of
 -- `RefusedLoad`, and so on.
-use mathlib.Core.Path.{_≡_}
-use mathlib.Core.List.{List}
+use mathlib.Core.{Path._≡_, List.List}
 use Prim.Native.Nat.{ℕ, _+_, _-_, _<_, _≤_}
-use lib.IntN.{ℤ}
-use lib.ListN.{length, take, drop}
+use lib.{IntN.ℤ, ListN.length, ListN.take, ListN.drop}
 use Rattle.integers.specs.Flat.{list-from}
-use Rattle.job.specs.Refusal.{Decides, first-refusal}
-use Rattle.job.specs.Rules.{last-step}
+use Rattle.job.specs.{Refusal.Decides, Refusal.first-refusal, Rules.last-step}
 use Rattle.header.specs.Header.{header-of}
 use Rattle.frame.specs.Frame.{frame-numbers, frame-checks, frame-refusal}
-use Rattle.state.specs.State.{idle-state, fresh, state-checks, state-last}
-use Rattle.state.specs.declared.State.{State}
+use Rattle.state.specs.{State.idle-state, State.fresh, State.state-checks, State.state-last, declared.State.State}
 use Rattle.stepping.specs.Steps.{steps}
 use Rattle.evaluator.specs.Evaluator.{loaded, smaller, advance-checks, advanced, state-reading, readings-checks, readings-refusal, readings-list}
 

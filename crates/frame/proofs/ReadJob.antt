@@ -8,8 +8,7 @@ use borrow.Author.Tests.{ne-eqb}
 use lib.IntN.{ℤ}
 use lib.ListN.{length, take, drop, length-take}
 use lib.Seq.{take-at}
-use Rattle.job.specs.Header.{count}
-use Rattle.job.specs.Limits.{Limits}
+use Rattle.job.specs.Header.{count, Limits}
 use Rattle.job.specs.declared.Verdict.{Verdict}
 use Rattle.system.specs.Inner.{Numbers}
 use Rattle.header.specs.Header.{header-of}

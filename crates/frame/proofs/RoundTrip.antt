@@ -13,8 +13,7 @@ use Rattle.bitfields.proofs.Spelling.{bits-each, bytes-fit, fit-append, total-w
 use Rattle.bitfields.proofs.Writing.{write-framed}
 use Rattle.bitfields.proofs.RoundTrip.{fields-write, write-fields}
 use Rattle.bitfields.proofs.Twos.{fit-encodes, fields-numbers, numbers-after}
-use Rattle.job.specs.Header.{number-bits, count}
-use Rattle.job.specs.Limits.{Limits}
+use Rattle.job.specs.Header.{number-bits, count, Limits}
 use Rattle.job.specs.declared.Header.{Header}
 use Rattle.header.specs.Header.{header-bits, header-of}
 use Rattle.header.proofs.Header.{header-widths, fit-header, header-spelled}

@@ -11,9 +11,8 @@ use lib.Seq.{drop-at}
 use Rattle.integers.specs.Sum.{weight}
 use Rattle.bitfields.specs.Layout.{bits, bytes-for, write, written}
 use Rattle.bitfields.proofs.Writing.{drop-written}
-use Rattle.job.specs.Header.{count}
+use Rattle.job.specs.Header.{count, Limits}
 use Rattle.job.specs.Kind.{kind-of}
-use Rattle.job.specs.Limits.{Limits}
 use Rattle.job.proofs.Limits.{count-most}
 use Rattle.job.proofs.Refusal.{decided, refused-gives, either}
 use Rattle.system.specs.Rows.{light-enough, small-enough}

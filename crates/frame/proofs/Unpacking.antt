@@ -10,9 +10,8 @@ use lib.IntN.{ℤ}
 use lib.ListN.{length, drop}
 use Rattle.bitfields.specs.Layout.{field, fill}
 use Rattle.bitfields.specs.Twos.{numbers}
-use Rattle.job.specs.Header.{count, read-checks}
+use Rattle.job.specs.Header.{count, read-checks, Limits}
 use Rattle.job.specs.Kind.{kind-of, most-numbers}
-use Rattle.job.specs.Limits.{Limits}
 use Rattle.job.proofs.Limits.{count-most}
 use Rattle.job.specs.Refusal.{first-refusal}
 use Rattle.job.proofs.Refusal.{refused-before, accepted-before}

@@ -15,12 +15,11 @@ use Rattle.integers.specs.Sum.{weight}
 use Rattle.bitfields.specs.Layout.{fill, field}
 use Rattle.bitfields.specs.Twos.{Fits, AllFit, fitsb}
 use Rattle.bitfields.proofs.Twos.{fits-fitsb, fitsb-true, length-numbers, numbers-all-fit}
-use Rattle.job.specs.Header.{number-bits, count, header-checks, read-checks}
+use Rattle.job.specs.Header.{number-bits, count, header-checks, read-checks, Limits}
 use Rattle.job.specs.Refusal.{Check, first-refusal, None, none, also}
 use Rattle.job.proofs.Refusal.{accepted-exactly, equal, not-unequal}
 use Rattle.header.proofs.Header.{header-is}
 use Rattle.job.specs.Kind.{kind-of}
-use Rattle.job.specs.Limits.{Limits}
 use Rattle.job.proofs.Limits.{limits-exactly, count-most}
 use Rattle.system.specs.Rows.{light-enough, small-enough}
 use Rattle.system.specs.System.{matrix-of, right-side-of}

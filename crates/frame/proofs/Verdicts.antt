@@ -13,8 +13,7 @@ use lib.Signed.{mag}
 use Rattle.integers.specs.Flat.{at, entry, flat-vector, flat-matrix}
 use Rattle.integers.proofs.Normal.{both, both-left, both-right}
 use Rattle.bitfields.specs.Twos.{AllFit}
-use Rattle.job.specs.Header.{number-bits, count}
-use Rattle.job.specs.Limits.{Limits}
+use Rattle.job.specs.Header.{number-bits, count, Limits}
 use Rattle.job.specs.Refusal.{Check, first-refusal}
 use Rattle.job.proofs.Refusal.{numbered, refused-before, accepted-before}
 use Rattle.system.specs.Rows.{system-verdict}

@@ -13,8 +13,7 @@ use lib.Seq.{drop-cons, length-take-le}
 use Rattle.bitfields.specs.Layout.{Field, bits, number, each, octets, bytes-for, Bytes, pack, write, put, written}
 use Rattle.bitfields.specs.Twos.{encode, fitsb, AllFit}
 use Rattle.bitfields.proofs.Writing.{put-written}
-use Rattle.job.specs.Header.{number-bits, count, header-checks}
-use Rattle.job.specs.Limits.{Limits}
+use Rattle.job.specs.Header.{number-bits, count, header-checks, Limits}
 use Rattle.job.proofs.Limits.{limits-exactly, count-least}
 use Rattle.job.specs.Refusal.{first-refusal}
 use Rattle.job.specs.declared.Header.{Header}

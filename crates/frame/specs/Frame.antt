@@ -1,21 +1,13 @@
 -- Job frames (document 01, "Job frame" and "Refused because of the input"): the layout, the condition of each
 -- refusal, and what the frame reader and the frame writer answer and leave.
-use mathlib.Core.Bool.{Bool, true, not, cond, _&&_}
-use mathlib.Core.List.{List, [], _∷_, _++_, map}
+use mathlib.Core.{Bool.Bool, Bool.true, Bool.not, Bool.cond, Bool._&&_, List.List, List.[], List._∷_, List._++_, List.map}
 use Prim.Native.Nat.{ℕ, _+_, _*_}
-use lib.Dec.{ltb, eqb}
-use lib.IntN.{ℤ}
-use lib.ListN.{length, drop}
-use Rattle.bitfields.specs.Layout.{Field, each, field, fill, bytes-for, written}
-use Rattle.bitfields.specs.Twos.{encode, fitsb, numbers}
-use Rattle.job.specs.Header.{number-bits, count, read-checks, header-checks, zero-header}
-use Rattle.job.specs.Refusal.{Check, first-refusal}
-use Rattle.system.specs.Rows.{system-checks, row-given}
-use Rattle.system.specs.System.{matrix-of, right-side-of}
-use Rattle.job.specs.declared.Header.{Header}
+use lib.{Dec.ltb, Dec.eqb, IntN.ℤ, ListN.length, ListN.drop}
+use Rattle.bitfields.specs.{Layout.Field, Layout.each, Layout.field, Layout.fill, Layout.bytes-for, Layout.written, Twos.encode, Twos.fitsb, Twos.numbers}
+use Rattle.job.specs.{Header.number-bits, Header.count, Header.read-checks, Header.header-checks, Header.zero-header, Refusal.Check, Refusal.first-refusal, declared.Header.Header}
+use Rattle.system.specs.{Rows.system-checks, Rows.row-given, System.matrix-of, System.right-side-of}
 use Rattle.header.specs.Header.{header-fields, header-bits, header-of}
-use Rattle.frame.specs.declared.FrameRead.{FrameRead}
-use Rattle.frame.specs.declared.FrameWritten.{FrameWritten}
+use Rattle.frame.specs.{declared.FrameRead.FrameRead, declared.FrameWritten.FrameWritten}
 
 -- ---- the layout
 

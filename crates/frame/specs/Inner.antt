@@ -1,21 +1,12 @@
 -- What the contracts of inner functions cite; a reader of the promises can skip it.
-use mathlib.Core.Path.{_≡_}
-use mathlib.Core.Bool.{cond}
-use mathlib.Core.List.{List, _++_}
+use mathlib.Core.{Path._≡_, Bool.cond, List.List, List._++_}
 use Prim.Native.Nat.{ℕ}
-use lib.Dec.{eqb}
-use lib.IntN.{ℤ}
-use lib.ListN.{drop}
+use lib.{Dec.eqb, IntN.ℤ, ListN.drop}
 use Rattle.integers.specs.Flat.{flat-vector, flat-matrix}
-use Rattle.job.specs.Header.{count, zero-header}
-use Rattle.job.specs.Refusal.{Check, first-refusal}
+use Rattle.job.specs.{Header.count, Header.zero-header, Refusal.Check, Refusal.first-refusal, declared.Header.Header, declared.Verdict.Verdict}
 use Rattle.system.specs.System.{matrix-of, right-side-of}
-use Rattle.job.specs.declared.Header.{Header}
-use Rattle.job.specs.declared.Verdict.{Verdict}
 use Rattle.header.specs.Header.{header-of}
-use Rattle.frame.specs.declared.FrameRead.{FrameRead}
-use Rattle.frame.specs.declared.Job.{Job}
-use Rattle.frame.specs.Frame.{frame-numbers, layout-checks, number-checks, frame-row}
+use Rattle.frame.specs.{declared.FrameRead.FrameRead, declared.Job.Job, Frame.frame-numbers, Frame.layout-checks, Frame.number-checks, Frame.frame-row}
 
 -- the first refusal of the checks, of a job with the header h and the numbers v, and its row
 unfoldable pub checks-verdict : List Check → Header → List ℤ → Verdict

@@ -1,25 +1,15 @@
 -- What is promised of job frames. By their contracts the frame reader and the frame writer answer and leave
 -- what the definitions of Frame.antt say, whatever they are given, so each statement is one about the two
 -- calls. proofs/Theorems.antt has a proof of each.
-use mathlib.Core.Path.{_≡_}
-use mathlib.Core.Bool.{true, not}
-use mathlib.Core.List.{List, _++_}
-use mathlib.Core.Logic.{_↔_}
+use mathlib.Core.{Path._≡_, Bool.true, Bool.not, List.List, List._++_, Logic._↔_}
 use Prim.Native.Nat.{ℕ, suc, _<_, _≤_}
-use lib.IntN.{ℤ}
-use lib.ListN.{length, drop}
+use lib.{IntN.ℤ, ListN.length, ListN.drop}
 use Rattle.integers.specs.Sum.{weight}
-use Rattle.bitfields.specs.Layout.{Bytes, field, fill, write}
-use Rattle.bitfields.specs.Twos.{AllFit}
-use Rattle.job.specs.Header.{number-bits, count, zero-header}
-use Rattle.job.specs.Limits.{Limits}
-use Rattle.job.specs.Refusal.{Decides}
-use Rattle.system.specs.Rows.{light-enough, small-enough, FirstRowIs}
-use Rattle.system.specs.System.{matrix-of, right-side-of}
-use Rattle.job.specs.declared.Header.{Header}
+use Rattle.bitfields.specs.{Layout.Bytes, Layout.field, Layout.fill, Layout.write, Twos.AllFit}
+use Rattle.job.specs.{Header.number-bits, Header.count, Header.zero-header, Header.Limits, Refusal.Decides, declared.Header.Header, Kind.most-numbers}
+use Rattle.system.specs.{Rows.light-enough, Rows.small-enough, Rows.FirstRowIs, System.matrix-of, System.right-side-of}
 use Rattle.header.specs.Header.{header-of}
 use Rattle.frame.specs.Frame.{frame-fields, frame-bits, frame-length, most-bytes, frame-numbers, frame-checks, frame-refusal, frame-row, frame-reader-checks, frame-reader-refusal, frame-reader-answer, frame-reader-list, frame-writer-checks, frame-writer-refusal, frame-writer-answer, frame-writer-buffer}
-use Rattle.job.specs.Kind.{most-numbers}
 
 -- ---- demand 1: the checks decide
 

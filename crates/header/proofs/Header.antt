@@ -10,8 +10,7 @@ use Rattle.bitfields.specs.Layout.{Field, Fit, none, more, number8, Bytes, fiel
 use Rattle.bitfields.proofs.Reading.{field-lt}
 use Rattle.bitfields.proofs.Spelling.{values}
 use Rattle.bitfields.proofs.Steps.{window}
-use Rattle.job.specs.Header.{read-checks}
-use Rattle.job.specs.Limits.{Limits}
+use Rattle.job.specs.Header.{read-checks, Limits}
 use Rattle.job.specs.Refusal.{first-refusal}
 use Rattle.job.proofs.Limits.{read-limits, digit-small, steps-small}
 use Rattle.job.specs.declared.Header.{Header}

@@ -5,7 +5,7 @@ ghost use mathlib.Core.Path.{_≡_};
 ghost use Prim.Native.Nat.{_≤_};
 ghost use lib.ListN.{length};
 ghost use Rattle.bitfields.specs.Layout.{number};
-ghost use Rattle.job.specs.Limits.{Limits};
+ghost use Rattle.job.specs.Header.{Limits};
 ghost use Rattle.header.specs.Header.{header-fields, header-of};
 use job::Header;
 

@@ -8,7 +8,7 @@ use lib.IntN.{ℤ, pos, natAbs, _+ℤ_, _-ℤ_, _*ℤ_}
 use lib.Signed.{_≤ℤ_, _<ℤ_}
 use mir.Syntax.{w64}
 use mir.Val.{SFits, toZ, ofZ}
-use Rattle.integers.specs.Within.{Within}
+use Rattle.integers.specs.Sum.{Within}
 use Rattle.integers.proofs.Absolute.{abs-add, abs-parts}
 use Rattle.integers.proofs.Normal.{solve, polys}
 use Rattle.integers.proofs.Linear.{lins, by-le, by-lt, use-le, use-lt, by-within, use-eq}

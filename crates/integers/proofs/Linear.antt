@@ -16,7 +16,7 @@ use lib.IntN.{ℤ, pos, negsuc, negℤ, natAbs, _+ℤ_, _*ℤ_}
 use lib.Signed.{_≤ℤ_, _<ℤ_}
 use Rattle.integers.proofs.Parts.{posPart, negPart, Difference, of-var, of-pos, of-negsuc, of-neg, of-add, of-mul}
 use Rattle.integers.proofs.Order.{le-by, lt-by, of-le, of-lt, of-eq}
-use Rattle.integers.specs.Within.{Within}
+use Rattle.integers.specs.Sum.{Within}
 use Rattle.integers.proofs.Absolute.{abs-le}
 use Rattle.integers.proofs.Normal.{At, here, there}
 

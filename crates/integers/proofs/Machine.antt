@@ -21,7 +21,7 @@ use lib.Signed.{mag, quotZ, remZ, ltZ, leZ}
 use mir.Syntax.{Width, w8, w64}
 use mir.Val.{SFits, hbits, toZ, ofZ}
 use mir.Facts.{toZ-ofZ, toZ-pos}
-use Rattle.integers.specs.Within.{Within}
+use Rattle.integers.specs.Sum.{Within}
 use Rattle.integers.proofs.Absolute.{abs-neg, abs-add-le, abs-mul-le, abs-neg-le}
 use Rattle.integers.proofs.Normal.{both, both-left, both-right}
 

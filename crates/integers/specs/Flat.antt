@@ -1,11 +1,8 @@
 -- Vectors and matrices in arrays: a vector of 16 numbers, and a matrix of 256 with row i, column j at 16 i +
 -- j. Past the order n there are zeros.
-use mathlib.Core.Bool.{cond, _&&_}
-use mathlib.Core.List.{List, [], _∷_}
+use mathlib.Core.{Bool.cond, Bool._&&_, List.List, List.[], List._∷_}
 use Prim.Native.Nat.{ℕ, zero, suc, _+_, _*_, _/_, _%_}
-use lib.Dec.{ltb}
-use lib.IntN.{ℤ, pos}
-use lib.ListN.{getD, set}
+use lib.{Dec.ltb, IntN.ℤ, IntN.pos, ListN.getD, ListN.set}
 
 -- ---- what an array holds
 

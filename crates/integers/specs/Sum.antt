@@ -1,7 +1,7 @@
 -- Sums over the indices below n, and what is made of them: the product of a row with a vector, and the weight
 -- of a row. Rows and vectors are functions of a column, of which the columns below n count. And powers of a
--- whole number.
-use Prim.Native.Nat.{ℕ, zero, suc, _+_}
+-- whole number, and a bound on one.
+use Prim.Native.Nat.{ℕ, zero, suc, _+_, _≤_}
 use lib.IntN.{ℤ, pos, natAbs, _+ℤ_, _*ℤ_}
 
 -- f 0 + f 1 + .. + f (n - 1), of whole numbers and of natural numbers
@@ -26,3 +26,7 @@ infixr 8 _^ℤ_
 abbrev pub _^ℤ_ : ℤ → ℕ → ℤ
 x ^ℤ zero = pos 1
 x ^ℤ suc k = x *ℤ x ^ℤ k
+
+-- |z| ≤ B. A record, so that a proof need not name z and B
+pub record Within (z : ℤ) (B : ℕ) : Type 0 where
+  pub abs : natAbs z ≤ B

@@ -5,7 +5,7 @@ ghost use mathlib.Core.Path.{_≡_};
 ghost use Prim.Native.Nat.{_/_, _<_, _^_};
 ghost use lib.IntN.{pos, natAbs};
 ghost use lib.Signed.{_≤ℤ_};
-ghost use Rattle.integers.specs.Within.{Within};
+ghost use Rattle.integers.specs.Sum.{Within};
 
 // An i8 as an i64.
 pub fn widen(z: i8) -> i64

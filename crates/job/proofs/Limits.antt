@@ -12,11 +12,10 @@ use lib.Pow.{pow-mono, pow-pos}
 use Rattle.integers.proofs.Maximum.{le-or-lt}
 use Rattle.job.specs.Refusal.{first-refusal, None, none, also}
 use Rattle.job.proofs.Refusal.{accepted-exactly, neither, fails, both-fail}
-use Rattle.job.specs.Header.{radix, digit-bits, unit, frame-code, trace-code, unknown-kind, read-checks-knowing, header-checks-knowing, read-checks, trace-read-checks, trace-header-checks}
+use Rattle.job.specs.Header.{radix, digit-bits, unit, frame-code, trace-code, unknown-kind, read-checks-knowing, header-checks-knowing, read-checks, trace-read-checks, trace-header-checks, Limits, LimitsExactly}
 use Rattle.job.specs.Kind.{Kind, polynomial, rational, system, unused, kind-of, is-unused, count-of, most-numbers}
 use Rattle.job.specs.Rules.{last-step, trace-steps, inner-bits, inner-unit}
 use Rattle.job.specs.declared.Header.{Header}
-use Rattle.job.specs.Limits.{Limits, LimitsExactly}
 
 fewer : (m c : ℕ) → m * (c + 1) ≤ 60 → m ≤ 60
 fewer m c g = omega arith

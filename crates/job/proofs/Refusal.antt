@@ -41,10 +41,6 @@ none→accepted ((k, false) ∷ cs) (also t f) = none→accepted cs f
 pub accepted-exactly : (cs : List Check) → T (numbered cs) → (first-refusal cs ≡ 0) ↔ None cs
 accepted-exactly cs t = (accepted→none cs t, none→accepted cs)
 
--- refused by c exactly when c's condition holds and none before it does
-pub refused-exactly : (c : ℕ) (cs : List Check) → 0 < c → (first-refusal cs ≡ c) ↔ First c cs
-refused-exactly c cs h = (refused→first c cs h, first→refused c cs)
-
 -- the law
 pub decided : (cs : List Check) → T (numbered cs) → Decides cs (first-refusal cs)
 decided cs t = record { refused = λ c h. (refused→first c cs h, first→refused c cs); accepted = accepted-exactly cs t }

@@ -1,12 +1,9 @@
 -- The header of a job (document 01, "Job frame"), its limits, and how many numbers and bits follow it. Cited
 -- by the readers and writers of frames and traces and by what the evaluator asks of a state.
-use mathlib.Core.Bool.{Bool, not, _||_}
-use mathlib.Core.List.{List, [], _∷_}
-use Prim.Native.Nat.{ℕ, _+_, _*_, _-_, _/_, _^_}
+use mathlib.Core.{Bool.Bool, Bool.not, Bool._||_, List.List, List.[], List._∷_, Path._≡_, Logic._↔_}
+use Prim.Native.Nat.{ℕ, _+_, _*_, _-_, _/_, _^_, _≤_}
 use lib.Dec.{ltb, leb, eqb}
-use Rattle.job.specs.Kind.{kind-of, is-unused, count-of}
-use Rattle.job.specs.Refusal.{Check}
-use Rattle.job.specs.declared.Header.{Header}
+use Rattle.job.specs.{Kind.kind-of, Kind.is-unused, Kind.count-of, Refusal.Check, Refusal.first-refusal, declared.Header.Header}
 
 -- log2 of the radix: the radix code 0, 1, 2, 3 stands for radix 2, 4, 8, 16
 abbrev pub digit-bits : ℕ → ℕ
@@ -89,3 +86,21 @@ trace-header-checks h = header-checks-knowing (trace-code (h .code)) h
 -- the header that goes with a refusal
 abbrev pub zero-header : Header
 zero-header = record { kind = 0; code = 0; p = 0; f = 0; n = 0; m = 0 }
+
+-- ---- the limits as facts on the header's numbers
+
+pub record Limits (h : Header) : Type 0 where
+  pub kind-most : h .kind ≤ 2
+  pub code-most : h .code ≤ 3
+  pub order-least : 1 ≤ h .n
+  pub order-most : h .n ≤ 16
+  pub digit-least : radix (h .code) / 2 ≤ h .p
+  pub digit-most : h .p ≤ radix (h .code) - 1
+  pub fraction-least : 4 ≤ h .f
+  pub fraction-most : h .f ≤ 40
+  pub steps-least : 1 ≤ h .m
+  pub steps-most : h .m * digit-bits (h .code) ≤ 60
+
+-- They are just what refusals 2, 14, 3, 4 and 5 leave. Proved in proofs/Limits.antt, as `limits-exactly`.
+abbrev pub LimitsExactly : Type 0
+LimitsExactly = (h : Header) → (first-refusal (header-checks h) ≡ 0) ↔ Limits h

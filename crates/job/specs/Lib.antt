@@ -2,4 +2,3 @@ pub mod Refusal
 pub mod Kind
 pub mod Rules
 pub mod Header
-pub mod Limits

@@ -1,10 +1,7 @@
 -- Refusals: every call that can refuse has a list of checks, each a refusal number of document 01 with its
 -- condition, in document 01's order. It answers the number of the first condition that holds, and 0 where
 -- none does.
-use mathlib.Core.Path.{_≡_}
-use mathlib.Core.Bool.{Bool, not, cond}
-use mathlib.Core.List.{List, [], _∷_}
-use mathlib.Core.Logic.{_↔_}
+use mathlib.Core.{Path._≡_, Bool.Bool, Bool.not, Bool.cond, List.List, List.[], List._∷_, Logic._↔_}
 use Prim.Native.Nat.{ℕ, _<_}
 use lib.Dec.{T}
 

@@ -2,14 +2,10 @@
 -- its proof and by the programs that call it.
 use mathlib.Core.Path.{_≡_, refl}
 use mathlib.Core.List.{List}
-use mathlib.Core.Logic.{_⊎_, inl, inr}
 use Prim.Native.Nat.{ℕ, _<_, _≤_}
-use native.Mathlib.Omega.{arith}
 use borrow.Author.Tests.{lt-ltb, le-ltb}
 use lib.ListN.{length}
-use Rattle.integers.proofs.Maximum.{le-or-lt}
 use Rattle.text.specs.Text.{with-text}
-use Rattle.text.proofs.Putting.{text-inside}
 use Rattle.printout.specs.Printout.{frame-text, print-checks, print-answer, print-buffer, PrintDecided, text-room}
 use Rattle.printout.specs.declared.Printed.{Printed}
 use Rattle.job.proofs.Refusal.{decided}
@@ -27,12 +23,3 @@ module _ (s out : List ℕ) where
       → _≡_ {A = Printed} (record { refusal = 0; length = n }) (print-answer s (length out)) × (after ≡ print-buffer s out)
   unfolding print-checks print-answer print-buffer
   print-accepted n after h e f = rw (le-ltb (length out) text-room h, e, f) (refl, refl)
-
-  -- the bytes put lie within the buffer: with a refusal there are none
-  length-inside : (text-room ≤ length out) ⊎ (length out < text-room) → print-answer s (length out) .length ≤ length (print-buffer s out)
-  unfolding print-checks print-answer print-buffer
-  length-inside (inl h) = rw (le-ltb (length out) text-room h) (text-inside out (frame-text s) refl refl)
-  length-inside (inr h) = rw (lt-ltb (length out) text-room h) (omega arith)
-
-  pub printed-inside : (r : Printed) (after : List ℕ) → r ≡ print-answer s (length out) → after ≡ print-buffer s out → r .length ≤ length after
-  printed-inside r after e f = rw (e, f) (length-inside (le-or-lt text-room (length out)))

@@ -10,8 +10,7 @@ use Rattle.system.specs.Rows.{first-row-from}
 use Rattle.system.specs.System.{curve-entry, matrix, right-side}
 use Rattle.frame.specs.Frame.{frame-checks}
 use Rattle.stepping.specs.Steps.{stepped-digits, stepped-residuals, steps, one-step}
-use Rattle.recurrence.specs.Recurrence.{shifted, next-digit, next-residual, reading}
-use Rattle.recurrence.specs.Selection.{select, digit-size}
+use Rattle.recurrence.specs.Recurrence.{shifted, next-digit, next-residual, reading, select, digit-size}
 use Rattle.state.specs.State.{fresh}
 use Rattle.text.specs.Text.{decimal-within, signed-decimal, line-end}
 use Rattle.printout.specs.Printout.{items-from, step-lines, refused-word, frame-text, print-checks, print-answer}

@@ -10,7 +10,7 @@ use lib.IntN.{ℤ}
 use lib.ListN.{length}
 use Rattle.integers.proofs.Maximum.{le-or-lt}
 use Rattle.job.specs.Rules.{last-step}
-use Rattle.job.specs.Limits.{Limits}
+use Rattle.job.specs.Header.{Limits}
 use Rattle.job.proofs.Limits.{last-least, last-small}
 use Rattle.job.specs.Refusal.{first-refusal}
 use Rattle.job.proofs.Refusal.{accepted-before}

@@ -15,8 +15,7 @@ use Rattle.job.proofs.Limits.{last-small}
 use Rattle.job.specs.Refusal.{first-refusal}
 use Rattle.job.proofs.Refusal.{accepted-before}
 use Rattle.job.specs.declared.Header.{Header}
-use Rattle.state.specs.PassesLimits.{PassesLimits}
-use Rattle.state.specs.State.{state-checks}
+use Rattle.state.specs.State.{PassesLimits, state-checks}
 use Rattle.state.specs.declared.State.{State}
 use Rattle.evaluator.specs.Evaluator.{state-reading, readings-list-too-short, readings-checks, readings-refusal, readings-list}
 use Rattle.evaluator.proofs.Kept.{passes-exactly}

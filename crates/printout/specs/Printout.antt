@@ -1,22 +1,14 @@
 -- What `edigits` prints for a frame (document 01, "Frames and digits"): a line kind, r, p, f, n, m; a line
 -- for each step, its number and the digits by row; a line `=` and the readings. A refused frame prints one
 -- line: `refused`, the number, and the row for 8 and 9.
-use mathlib.Core.Path.{_≡_}
-use mathlib.Core.Bool.{Bool, cond, _||_}
-use mathlib.Core.List.{List, [], _∷_, _++_}
+use mathlib.Core.{Path._≡_, Bool.Bool, Bool.cond, Bool._||_, List.List, List.[], List._∷_, List._++_}
 use Prim.Native.Nat.{ℕ, zero, suc, _<_}
-use lib.Dec.{eqb, ltb}
-use lib.IntN.{ℤ}
-use lib.ListN.{length, take}
+use lib.{Dec.eqb, Dec.ltb, IntN.ℤ, ListN.length, ListN.take}
 use Rattle.bitfields.specs.Layout.{Bytes}
-use Rattle.job.specs.Rules.{last-step}
-use Rattle.job.specs.Header.{radix}
-use Rattle.job.specs.Refusal.{Check, first-refusal, Decides}
-use Rattle.job.specs.declared.Header.{Header}
+use Rattle.job.specs.{Rules.last-step, Header.radix, Refusal.Check, Refusal.first-refusal, Refusal.Decides, declared.Header.Header}
 use Rattle.frame.specs.Frame.{frame-refusal, frame-row, frame-numbers}
 use Rattle.header.specs.Header.{header-of}
-use Rattle.state.specs.State.{digits-of, fresh}
-use Rattle.state.specs.declared.State.{State}
+use Rattle.state.specs.{State.digits-of, State.fresh, declared.State.State}
 use Rattle.stepping.specs.Steps.{steps}
 use Rattle.evaluator.specs.Evaluator.{state-reading}
 use Rattle.text.specs.Text.{decimal, signed-decimal, line, with-text}

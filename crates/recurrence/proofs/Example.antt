@@ -11,10 +11,7 @@ use lib.IntN.{ℤ, pos, negsuc, natAbs, _-ℤ_, _*ℤ_}
 use Rattle.integers.specs.Sum.{sum, total, dot, weight}
 use Rattle.integers.proofs.Maximum.{below-suc}
 use Rattle.job.specs.Rules.{bound-over, bound-under}
-use Rattle.recurrence.specs.Equations.{Solves}
-use Rattle.recurrence.specs.Selection.{digit-size, select}
-use Rattle.recurrence.specs.Recurrence.{shifted, next-digit, next-residual, digit, reading, digit-sum}
-use Rattle.recurrence.specs.Light.{Light, LightRows}
+use Rattle.recurrence.specs.Recurrence.{Solves, digit-size, select, shifted, next-digit, next-residual, digit, reading, digit-sum, Light, LightRows}
 use Rattle.recurrence.proofs.Theorems.{reading-sum, select-distance}
 
 -- ---- the choice, at unit 16 and largest digit 1: ties away from zero on both sides, and no rounding up

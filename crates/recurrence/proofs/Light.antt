@@ -3,7 +3,7 @@ use mathlib.Core.Path.{_≡_, ap}
 use mathlib.Core.Logic.{_↔_}
 use Prim.Native.Nat.{ℕ, suc, _+_, _*_, _-_, _≤_}
 use native.Mathlib.Omega.{arith}
-use Rattle.recurrence.specs.Light.{Light}
+use Rattle.recurrence.specs.Recurrence.{Light}
 use Rattle.recurrence.specs.Theorems.{LightRule}
 
 by-less : (q p u c e S x : ℕ) → x + c * q ≡ e * p → (suc q * (e * (p * S) + c * u) ≤ (e * p + c) * u) ↔ (e * suc q * p * S ≤ u * x)

@@ -10,7 +10,7 @@ use lib.IntN.{ℤ, pos, negℤ, natAbs, _+ℤ_, _-ℤ_, _*ℤ_}
 use Rattle.integers.proofs.Absolute.{abs-add, abs-mul}
 use Rattle.integers.proofs.Normal.{solve, polys}
 use Rattle.integers.proofs.Maximum.{le-or-lt}
-use Rattle.recurrence.specs.Light.{Light}
+use Rattle.recurrence.specs.Recurrence.{Light}
 
 -- ---- the identity. R is r^k, b the right-hand side, y the reading and s the row's product with the
 -- readings, z the residual and t the row's product with the digits; d is the next digit and t′ the row's

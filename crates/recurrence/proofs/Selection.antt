@@ -11,7 +11,7 @@ use lib.IntN.{ℤ, pos, negsuc, negℤ, natAbs, _-ℤ_, _*ℤ_}
 use Rattle.integers.proofs.Parts.{posPart-neg, negPart-neg, parts-add}
 use Rattle.integers.proofs.Absolute.{abs-neg, abs-le}
 use Rattle.integers.proofs.Normal.{solve, polys}
-use Rattle.recurrence.specs.Selection.{digit-size, select}
+use Rattle.recurrence.specs.Recurrence.{digit-size, select}
 use Rattle.recurrence.specs.Theorems.{SelectSelects}
 
 -- ---- what the rule gives

@@ -11,11 +11,8 @@ use Rattle.integers.proofs.Product.{dot-lin, dot-none, abs-dot}
 use Rattle.integers.proofs.Maximum.{Largest, largest-exists}
 use Rattle.integers.proofs.Normal.{solve, polys}
 use Rattle.integers.proofs.Sum.{sum-zero, sum-suc, sum-ext, sum-scale}
-use Rattle.recurrence.specs.Equations.{Solves}
-use Rattle.recurrence.specs.Selection.{select}
+use Rattle.recurrence.specs.Recurrence.{Solves, select, shifted, next-digit, next-residual, residual, reading, digit-sum, Run, Light, LightRows, WithinBounds}
 use Rattle.recurrence.proofs.Selection.{select-selects}
-use Rattle.recurrence.specs.Recurrence.{shifted, next-digit, next-residual, residual, reading, digit-sum, Run}
-use Rattle.recurrence.specs.Light.{Light, LightRows, WithinBounds}
 use Rattle.recurrence.proofs.Row.{identity-first, identity-next, one-more, grown, error-lin, error-row, error-abs, farthest}
 use Rattle.recurrence.specs.Theorems.{StepsRun, ReadingSum, Identity, BoundsKept, BoundsKeptNext, Distance, SelectDistance}
 

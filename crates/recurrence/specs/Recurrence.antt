@@ -1,10 +1,11 @@
 -- The recurrence of the E-method (document 01, "One step"), in units of 1/u: one step, the residuals and
--- digits of all steps, and the readings. Vectors are functions of a row and matrices of a row and a column,
--- of which those below n count.
-use mathlib.Core.Path.{_≡_}
-use Prim.Native.Nat.{ℕ, zero, suc, _-_, _^_, _<_}
-use lib.IntN.{ℤ, pos, _+ℤ_, _-ℤ_, _*ℤ_}
-use Rattle.integers.specs.Sum.{dot, sum}
+-- digits of all steps, and the readings; the choice of a digit; and what the theorems say of them: exact
+-- solutions, light rows and the bounds that steps keep. Vectors are functions of a row and matrices of a row
+-- and a column, of which those below n count.
+use mathlib.Core.{Path._≡_, Bool.cond}
+use Prim.Native.Nat.{ℕ, zero, suc, _-_, _^_, _<_, _+_, _*_, _≤_, _/_}
+use lib.{IntN.ℤ, IntN.pos, IntN._+ℤ_, IntN._-ℤ_, IntN._*ℤ_, IntN.negsuc, IntN.negℤ, IntN.natAbs, Dec.leb}
+use Rattle.integers.specs.Sum.{dot, sum, weight}
 
 -- ---- one step, from residuals z and the digits d of the step before
 
@@ -56,3 +57,46 @@ pub record Run (n r u : ℕ) (G : ℕ → ℕ → ℤ) (B : ℕ → ℤ) (z d y 
   pub y-first : (i : ℕ) → i < n → y 0 i ≡ pos 0
   pub z-next : (k i : ℕ) → i < n → z (suc k) i ≡ shifted n r G (z k) (d k) i -ℤ pos u *ℤ d (suc k) i
   pub y-next : (k i : ℕ) → i < n → y (suc k) i ≡ pos r *ℤ y k i +ℤ d (suc k) i
+
+-- ---- the choice of a digit: which whole number is taken off w, and what every rule of selection has to do
+
+-- The digit of the magnitude a: the whole number nearest to a / u, a tie up, while a is at most p u; past
+-- that, a / u cut to a whole number, as rounding up could give p + 1. The nearest is a / u + 1/2, cut.
+unfoldable pub digit-size : (p u a : ℕ) → ℕ
+digit-size p u a = cond (leb a (p * u)) ((2 * a + u) / (2 * u)) (a / u)
+
+-- The digit of w: that of its magnitude, with w's sign, so that a tie goes away from zero on both sides.
+unfoldable pub select : (p u : ℕ) (w : ℤ) → ℤ
+select p u (pos a) = pos (digit-size p u a)
+select p u (negsuc a) = negℤ (pos (digit-size p u (suc a)))
+
+-- What a rule has to do. Residuals are to stay within the fraction c / e of a unit, and digits within p. So
+-- wherever |w| is at most p + c / e units, the digit is within p, and what it leaves is at most c / e. All
+-- that is proved of the recurrence asks no more of its rule than this.
+pub record Selects (p u c e : ℕ) (sel : ℤ → ℤ) : Type 0 where
+  pub small : (w : ℤ) → e * natAbs w ≤ (e * p + c) * u → natAbs (sel w) ≤ p
+  pub left : (w : ℤ) → e * natAbs w ≤ (e * p + c) * u → e * natAbs (w -ℤ pos u *ℤ sel w) ≤ c * u
+
+-- ---- the linear equations A y = b, with A the identity less G: u N_i - Σ_j G_ij N_j = D B_i
+
+-- the fractions N i / D solve every row: A times their vector is b
+pub record Solves (n u D : ℕ) (G : ℕ → ℕ → ℤ) (B N : ℕ → ℤ) : Type 0 where
+  pub solves : (i : ℕ) → i < n → pos u *ℤ N i -ℤ dot n (G i) N ≡ pos D *ℤ B i
+
+-- ---- light rows (document 01, "The system") and the bounds that steps keep: residuals are to stay within
+-- the fraction c / e of a unit, 1/2 in document 01
+
+-- A row of weight S is light (document 01: light enough): e r p S ≤ u (e p - c (r - 1)), put without a
+-- difference; `LightRule` of Theorems.antt says that it is the same. It says that r times what z and the
+-- digits can come to is at most p + c / e units, within which a rule of selection works.
+pub record Light (r p u c e S : ℕ) : Type 0 where
+  pub light : r * (e * (p * S) + c * u) ≤ (e * p + c) * u
+
+-- every row below n is
+pub record LightRows (n r p u c e : ℕ) (G : ℕ → ℕ → ℤ) : Type 0 where
+  pub rows : (i : ℕ) → i < n → Light r p u c e (weight n (G i))
+
+-- each residual is at most c / e of a unit, and each digit within p
+pub record WithinBounds (n p u c e : ℕ) (z d : ℕ → ℤ) : Type 0 where
+  pub z-small : (i : ℕ) → i < n → e * natAbs (z i) ≤ c * u
+  pub d-small : (i : ℕ) → i < n → natAbs (d i) ≤ p

@@ -2,16 +2,12 @@
 -- and residual bound c / e, which is 1/2 in document 01. `Identity` and `Distance` hold of every run,
 -- whatever rule chose its digits. Each has its proof in proofs/, `identity` that of `Identity` and so on,
 -- for all that the statement names before its equals sign.
-use mathlib.Core.Path.{_≡_}
-use mathlib.Core.Logic.{_↔_}
+use mathlib.Core.{Path._≡_, Logic._↔_}
 use Prim.Native.Nat.{ℕ, _*_, _-_, _^_, _<_, _≤_}
 use lib.IntN.{ℤ, pos, natAbs, _+ℤ_, _-ℤ_, _*ℤ_}
 use Rattle.integers.specs.Sum.{dot}
 use Rattle.job.specs.Rules.{bound-over, bound-under}
-use Rattle.recurrence.specs.Equations.{Solves}
-use Rattle.recurrence.specs.Light.{Light, LightRows, WithinBounds}
-use Rattle.recurrence.specs.Recurrence.{next-digit, next-residual, residual, digit, reading, digit-sum, Run}
-use Rattle.recurrence.specs.Selection.{Selects, select}
+use Rattle.recurrence.specs.Recurrence.{Solves, Light, LightRows, WithinBounds, next-digit, next-residual, residual, digit, reading, digit-sum, Run, Selects, select}
 
 -- The reading by Horner's rule is document 01's sum, of any digits.
 abbrev pub ReadingSum : Type 0

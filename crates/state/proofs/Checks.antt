@@ -6,8 +6,7 @@ use Prim.Native.Nat.{ℕ, _<_, _≤_}
 use native.Mathlib.Omega.{arith}
 use borrow.Author.Tests.{lt-ltb, le-ltb}
 use Rattle.integers.specs.Flat.{at, entry}
-use Rattle.job.specs.Header.{header-checks}
-use Rattle.job.specs.Limits.{Limits}
+use Rattle.job.specs.Header.{header-checks, Limits}
 use Rattle.job.proofs.Limits.{limits-exactly, digit-small, last-small}
 use Rattle.job.specs.Refusal.{first-refusal}
 use Rattle.system.specs.Rows.{heavy-row, large-residual}

@@ -14,16 +14,14 @@ use Rattle.integers.specs.Flat.{at, entry, flat-matrix}
 use Rattle.integers.proofs.Flat.{at-flat-vector, entry-flat-matrix}
 use Rattle.integers.specs.Sum.{weight}
 use Rattle.integers.proofs.Product.{weight-ext}
-use Rattle.job.specs.Header.{unit, header-checks}
-use Rattle.job.specs.Limits.{Limits}
+use Rattle.job.specs.Header.{unit, header-checks, Limits}
 use Rattle.job.proofs.Limits.{limits-exactly, last-small}
 use Rattle.job.specs.Refusal.{first-refusal}
 use Rattle.system.specs.Rows.{light-enough, small-enough, residual-kept}
 use Rattle.job.specs.Rules.{inner-unit, bound-over, bound-under}
 use Rattle.system.specs.System.{matrix-of, right-side-of}
 use Rattle.job.specs.declared.Header.{Header}
-use Rattle.state.specs.State.{all-steps, digit-places, state-last, state-unit, fresh, header-broken, steps-broken, row-broken, residual-broken, digit-beyond, later-digit, breaks-limit}
-use Rattle.state.specs.PassesLimits.{PassesLimits, PassesExactly}
+use Rattle.state.specs.State.{all-steps, digit-places, state-last, state-unit, fresh, header-broken, steps-broken, row-broken, residual-broken, digit-beyond, later-digit, breaks-limit, PassesLimits, PassesExactly}
 use Rattle.state.specs.declared.State.{State}
 use Rattle.system.proofs.FirstRow.{no-row}
 use Rattle.state.proofs.Digits.{beyond-false}

@@ -12,9 +12,7 @@ use Rattle.integers.specs.Flat.{entry}
 use Rattle.integers.proofs.Product.{weight-ext}
 use Rattle.job.proofs.Limits.{last-small}
 use Rattle.system.proofs.FirstRow.{first-row-ext}
-use Rattle.state.specs.State.{beyond, breaks-limit, state-checks}
-use Rattle.state.specs.PastOrder.{SameBelow}
-use Rattle.state.specs.PassesLimits.{PassesLimits}
+use Rattle.state.specs.State.{beyond, breaks-limit, state-checks, SameBelow, PassesLimits}
 use Rattle.state.specs.Inner.{state-of}
 use Rattle.state.specs.declared.State.{State}
 use Rattle.job.proofs.Refusal.{same-test}

@@ -1,12 +1,7 @@
 -- What the contracts of inner functions cite; a reader of the promises can skip it.
-use mathlib.Core.Path.{_≡_}
-use mathlib.Core.Bool.{Bool, false}
-use mathlib.Core.List.{List}
-use mathlib.Core.Logic.{_↔_}
+use mathlib.Core.{Path._≡_, Bool.Bool, Bool.false, List.List, Logic._↔_}
 use Prim.Native.Nat.{ℕ, _<_, _≤_}
-use lib.Dec.{ltb}
-use lib.IntN.{ℤ, natAbs}
-use lib.ListN.{length, getD}
+use lib.{Dec.ltb, IntN.ℤ, IntN.natAbs, ListN.length, ListN.getD}
 use Rattle.integers.specs.Flat.{entry}
 use Rattle.job.specs.declared.Header.{Header}
 use Rattle.state.specs.declared.State.{State}

@@ -1,4 +1,2 @@
 pub mod State
-pub mod PassesLimits
-pub mod PastOrder
 pub mod Inner

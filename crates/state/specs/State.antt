@@ -1,18 +1,11 @@
 -- The state (document 01, "Calls" and "Refused because of the state"): its digits, what the idle state and a
 -- fresh job are, and the conditions of refusals 20 and 24. Cited by every call that takes a state.
-use mathlib.Core.Bool.{Bool, true, false, not, _||_}
-use mathlib.Core.List.{List, [], _∷_}
-use Prim.Native.Nat.{ℕ, zero, suc, _-_}
-use lib.Dec.{ltb}
-use lib.IntN.{ℤ, pos, natAbs}
-use lib.ListN.{replicate}
-use Rattle.integers.specs.Flat.{at, entry, flat-vector, flat-matrix}
-use Rattle.job.specs.Header.{header-checks, zero-header}
-use Rattle.job.specs.Refusal.{Check, first-refusal}
-use Rattle.job.specs.Rules.{last-step, inner-unit}
-use Rattle.job.specs.declared.Header.{Header}
-use Rattle.system.specs.Rows.{first-row, heavy-row, large-residual}
-use Rattle.system.specs.System.{matrix-of, right-side-of}
+use mathlib.Core.{Bool.Bool, Bool.true, Bool.false, Bool.not, Bool._||_, List.List, List.[], List._∷_, Path._≡_, Logic._↔_}
+use Prim.Native.Nat.{ℕ, zero, suc, _-_, _*_, _<_, _≤_}
+use lib.{Dec.ltb, IntN.ℤ, IntN.pos, IntN.natAbs, ListN.replicate}
+use Rattle.integers.specs.{Flat.at, Flat.entry, Flat.flat-vector, Flat.flat-matrix, Sum.weight}
+use Rattle.job.specs.{Header.header-checks, Header.zero-header, Header.Limits, Refusal.Check, Refusal.first-refusal, Rules.last-step, Rules.inner-unit, Rules.bound-over, Rules.bound-under, declared.Header.Header}
+use Rattle.system.specs.{Rows.first-row, Rows.heavy-row, Rows.large-residual, Rows.light-enough, System.matrix-of, System.right-side-of}
 use Rattle.state.specs.declared.State.{State}
 
 -- the last step of a state's job, and the unit of its residuals
@@ -110,3 +103,33 @@ idle s = not (s .busy)
 
 abbrev pub state-checks : State → List Check
 state-checks s = (20, idle s) ∷ (24, breaks-limit s) ∷ []
+
+-- ---- what 24 asks, as facts on a state's numbers
+
+pub record PassesLimits (s : State) : Type 0 where
+  -- the header's fields are within their limits, and k is at most the last step
+  pub limits : Limits (s .header)
+  pub steps : s .k ≤ state-last s
+  -- every row is light enough, and every residual within its bound
+  pub light : (i : ℕ) → i < s .header .n → light-enough (s .header) (weight (s .header .n) (entry (s .g) i)) ≡ true
+  pub small : (i : ℕ) → i < s .header .n → bound-under * natAbs (at (s .z) i) ≤ bound-over * state-unit s
+  -- the digits of the first k steps are within p, and those after them are 0
+  pub made : (t i : ℕ) → t < s .k → i < s .header .n → natAbs (entry (s .digits) t i) ≤ s .header .p
+  pub later : (t i : ℕ) → s .k ≤ t → t < all-steps → i < s .header .n → entry (s .digits) t i ≡ pos 0
+
+-- They are just what refusal 24 lets through. Proved in proofs/PassesLimits.antt, as `passes-limits`.
+abbrev pub PassesExactly : Type 0
+PassesExactly = (s : State) → (breaks-limit s ≡ false) ↔ PassesLimits s
+
+-- ---- two states that agree below the order
+
+-- Whether there is a job, the header and the steps made are the same, and so are G's entries in rows and
+-- columns below the order, the residuals of the rows below it, and these rows' digits at each step that there
+-- is room for. Of the other entries nothing is said.
+pub record SameBelow (s t : State) : Type 0 where
+  pub busy : s .busy ≡ t .busy
+  pub header : s .header ≡ t .header
+  pub steps : s .k ≡ t .k
+  pub matrix : (i j : ℕ) → i < s .header .n → j < s .header .n → entry (s .g) i j ≡ entry (t .g) i j
+  pub residuals : (i : ℕ) → i < s .header .n → at (s .z) i ≡ at (t .z) i
+  pub digits : (j i : ℕ) → j < all-steps → i < s .header .n → entry (s .digits) j i ≡ entry (t .digits) j i

@@ -13,21 +13,21 @@ use lib.Pow.{pow-mono, pow-pos}
 use lib.Signed.{leZ, ltZ, quotZ}
 use mir.Syntax.{w64}
 use mir.Val.{SFits, toZ, ofZ}
-use Rattle.integers.specs.Within.{Within}
+use Rattle.integers.specs.Sum.{Within}
 use Rattle.integers.proofs.Machine.{Machine, known, cast, machs, read-i64, machine-fits, machine-eq, machine-test}
 use Rattle.integers.proofs.Maximum.{le-or-lt}
 use Rattle.integers.proofs.Order.{zarith}
-use Rattle.recurrence.specs.Selection.{digit-size, select}
+use Rattle.recurrence.specs.Recurrence.{digit-size, select}
 use Rattle.recurrence.proofs.Selection.{digit-size-nearest, digit-size-cut}
 
 -- ---- the unit
 
-pub unit-most : (f : ℕ) → f ≤ 40 → 2 ^ f ≤ 2 ^ 40
-unit-most f h = pow-mono h
+pub unit-within : (f : ℕ) → f ≤ 40 → 2 ^ f ≤ 2 ^ 40
+unit-within f h = pow-mono h
 
 -- what `unit` gave
 abbrev unit-value : (f : ℕ) → f ≤ 40 → (one : ℤ) → one ≡ pos (2 ^ f) → Machine one
-unit-value f h one e = known one (pos (2 ^ f)) (2 ^ 40) e (unit-most f h)
+unit-value f h one e = known one (pos (2 ^ f)) (2 ^ 40) e (unit-within f h)
 
 -- ---- the digit of a magnitude
 
@@ -70,7 +70,7 @@ module _ {w : ℤ} {f p : ℕ} {size half one : ℤ} (k : Given w f p size half 
   the-size = known size (pos (natAbs w)) (2 ^ 45) (k .size-is ∙ ap (λ x. pos (natAbs x)) (same w (k .within))) (k .within .abs)
 
   abbrev the-half : Machine half
-  the-half = known half (pos (2 ^ f / 2)) (2 ^ 40) (k .half-is) (omega (arith, unit-most f (k .bits)))
+  the-half = known half (pos (2 ^ f / 2)) (2 ^ 40) (k .half-is) (omega (arith, unit-within f (k .bits)))
 
   abbrev the-unit : Machine one
   the-unit = unit-value f (k .bits) one (k .one-is)
@@ -96,7 +96,7 @@ module _ {w : ℤ} {f p : ℕ} {size half one : ℤ} (k : Given w f p size half 
       record {
         size = natAbs w + 2 ^ f / 2;
         is = ap (toZ w64) e ∙ machine-eq (search machs depth 9) tt refl;
-        small = omega (arith, unit-most f (k .bits), k .within .abs);
+        small = omega (arith, unit-within f (k .bits), k .within .abs);
         digit = digit-size-half p (2 ^ f) (natAbs w) (pow-pos f) l;
       }
 
@@ -151,7 +151,7 @@ module _ (w : ℤ) (f p : ℕ) (hf : f ≤ 40) (hw : Within w (2 ^ 45)) (size : 
   abbrev the-digit : Machine size
   the-digit =
       known size (pos (digit-size p (2 ^ f) (natAbs w))) (2 ^ 46) size-is
-      (omega (arith, digit-size-le p (2 ^ f) (natAbs w) (pow-pos f), unit-most f hf, hw .abs))
+      (omega (arith, digit-size-le p (2 ^ f) (natAbs w) (pow-pos f), unit-within f hf, hw .abs))
 
   pub opposite-fits : SFits w64 (pos 0 -ℤ toZ w64 (ofZ w64 size))
   opposite-fits = let a = the-digit in machine-fits (search machs depth 9) tt

@@ -10,9 +10,7 @@ use lib.IntN.{ℤ, pos, negsuc, natAbs}
 use Rattle.integers.specs.Sum.{sum, total, dot, weight}
 use Rattle.integers.proofs.Maximum.{below-suc}
 use Rattle.job.specs.Rules.{bound-over, bound-under}
-use Rattle.recurrence.specs.Selection.{digit-size, select}
-use Rattle.recurrence.specs.Recurrence.{shifted, next-digit, next-residual}
-use Rattle.recurrence.specs.Light.{Light}
+use Rattle.recurrence.specs.Recurrence.{digit-size, select, shifted, next-digit, next-residual, Light}
 use Rattle.integers.specs.Flat.{at, entry, stores}
 use Rattle.stepping.specs.Steps.{stepped-digits, stepped-residuals}
 use Rattle.stepping.proofs.Limits.{KeepsLimits}

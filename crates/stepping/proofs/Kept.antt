@@ -14,18 +14,16 @@ use Rattle.integers.specs.Flat.{at, entry}
 use Rattle.integers.proofs.Flat.{at-flat-vector}
 use Rattle.integers.proofs.Stores.{length-stores, stores-at}
 use Rattle.integers.proofs.Maximum.{le-or-lt}
-use Rattle.job.specs.Header.{radix}
-use Rattle.job.specs.Limits.{Limits}
+use Rattle.job.specs.Header.{radix, Limits}
 use Rattle.job.proofs.Limits.{radix-least, radix-most, digit-small}
 use Rattle.system.specs.Rows.{light-enough}
 use Rattle.job.specs.Rules.{inner-bits, inner-unit, bound-over, bound-under}
 use Rattle.job.specs.declared.Header.{Header}
 use Rattle.stepping.proofs.Limits.{KeepsLimits}
-use Rattle.recurrence.specs.Light.{Light}
+use Rattle.recurrence.specs.Recurrence.{Light}
 use Rattle.recurrence.proofs.Light.{light-rule}
 use Rattle.stepping.proofs.Stepped.{keeps-limits-next}
-use Rattle.state.specs.State.{digits-of, state-last, state-unit}
-use Rattle.state.specs.PassesLimits.{PassesLimits}
+use Rattle.state.specs.State.{digits-of, state-last, state-unit, PassesLimits}
 use Rattle.state.specs.declared.State.{State}
 use Rattle.stepping.specs.Steps.{last-digits, chosen-digits, residuals-left, digits-stored, one-step, steps, StepsPassLimits}
 use Rattle.stepping.proofs.Steps.{steps-header, steps-k, stored-other}

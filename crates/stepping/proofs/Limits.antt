@@ -10,12 +10,11 @@ use Rattle.integers.specs.Flat.{at, entry}
 use Rattle.integers.specs.Sum.{weight}
 use Rattle.integers.proofs.Product.{abs-dot, entry-le-weight}
 use Rattle.job.specs.Rules.{bound-over, bound-under}
-use Rattle.recurrence.specs.Recurrence.{shifted}
+use Rattle.recurrence.specs.Recurrence.{shifted, LightRows, WithinBounds}
 use Rattle.recurrence.proofs.Row.{light-less}
 use Rattle.recurrence.proofs.Theorems.{bound}
 use Rattle.stepping.specs.Inner.{MayChoose, Signs, Summed, MaySumRows, MayTabulate}
-use Rattle.stepping.proofs.Chosen.{unit-most}
-use Rattle.recurrence.specs.Light.{LightRows, WithinBounds}
+use Rattle.stepping.proofs.Chosen.{unit-within}
 
 -- document 01's limits on a job and on its numbers: light rows, residuals within their bound and digits
 -- within p
@@ -29,7 +28,7 @@ pub record KeepsLimits (n r p u : ℕ) (g z d : List ℤ) : Type 0 where
 module _ {n r p f : ℕ} {g z d : List ℤ} (bits : f ≤ 40) (h : KeepsLimits n r p (2 ^ f) g z d) where
   weight-small : (i : ℕ) → i < n → weight n (entry g i) ≤ 2 ^ 40
   weight-small i l =
-      omega (arith, light-less r p (2 ^ f) bound-over bound-under (weight n (entry g i)) (h .radix .0) (omega arith) (pow-pos f) (h .light .rows i l), unit-most f bits)
+      omega (arith, light-less r p (2 ^ f) bound-over bound-under (weight n (entry g i)) (h .radix .0) (omega arith) (pow-pos f) (h .light .rows i l), unit-within f bits)
 
   pub may-sum-rows : MaySumRows n g d
   may-sum-rows i l =
@@ -59,7 +58,7 @@ module _ {n r p f : ℕ} {g z d : List ℤ} (bits : f ≤ 40) (h : KeepsLimits n
           order = h .order;
           radix = h .radix .1;
           largest = h .largest;
-          residuals = λ i l. omega (arith, h .within .z-small i l, unit-most f bits);
+          residuals = λ i l. omega (arith, h .within .z-small i l, unit-within f bits);
           sums = sum-small;
           bound = λ i l. rw (sums .rows i l) (bound (h .light) (h .within) i l);
         }

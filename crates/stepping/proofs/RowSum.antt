@@ -9,9 +9,8 @@ use lib.IntN.{ℤ, pos, natAbs, _+ℤ_, _*ℤ_, +ℤ-idl}
 use lib.ListN.{getD}
 use mir.Syntax.{w8, w64}
 use mir.Val.{SFits, toZ, ofZ}
-use Rattle.integers.specs.Within.{Within}
+use Rattle.integers.specs.Sum.{Within, dot, weight}
 use Rattle.integers.proofs.Machine.{Machine, known, bounded, cast, machs, machine-fits, machine-eq}
-use Rattle.integers.specs.Sum.{dot, weight}
 use Rattle.integers.proofs.Product.{dot-zero, dot-suc, abs-dot, weight-le, entry-le-weight}
 use Rattle.integers.specs.Flat.{at, entry}
 use Rattle.stepping.specs.Inner.{MaySum}

@@ -10,9 +10,8 @@ use lib.IntN.{ℤ, pos, natAbs}
 use lib.ListN.{length, set, replicate, getD-replicate, List·getD-eq-default}
 use lib.Seq.{ext-getD}
 use Rattle.integers.proofs.Maximum.{le-or-lt}
-use Rattle.recurrence.specs.Selection.{select}
+use Rattle.recurrence.specs.Recurrence.{select, shifted, next-digit, next-residual}
 use Rattle.recurrence.proofs.Selection.{select-selects}
-use Rattle.recurrence.specs.Recurrence.{shifted, next-digit, next-residual}
 use Rattle.recurrence.proofs.Theorems.{bounds-kept-next}
 use Rattle.integers.specs.Flat.{at, entry, stores}
 use Rattle.integers.proofs.Stores.{stores-zero, stores-suc, length-stores, stores-other, stores-at}

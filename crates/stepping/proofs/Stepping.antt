@@ -26,8 +26,7 @@ use Rattle.stepping.specs.Steps.{filled, last-digits, chosen-digits, res
 use Rattle.stepping.specs.Inner.{digit-from, residual-from, Vector, MayChoose, row-dot, Summed, MaySumRows, Signs, Between, MayStepOnce, Stepped, MayStep}
 use Rattle.stepping.proofs.Limits.{KeepsLimits, may-sum-rows, digits-signs, may-choose-from}
 use Rattle.stepping.proofs.Stepped.{vector-zeros, length-stepped-digits, stepped-digit-past, filled-summed, length-filled, filled-stepped, filled-left, keeps-limits-next}
-use Rattle.state.specs.State.{state-unit, digits-of}
-use Rattle.state.specs.PassesLimits.{PassesLimits}
+use Rattle.state.specs.State.{state-unit, digits-of, PassesLimits}
 use Rattle.state.specs.Inner.{state-of}
 use Rattle.state.specs.declared.State.{State}
 use Rattle.stepping.proofs.Steps.{steps-header, steps-busy, steps-k, stored-same}

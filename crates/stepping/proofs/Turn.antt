@@ -9,15 +9,15 @@ use lib.IntN.{ℤ, pos, natAbs, _+ℤ_, _-ℤ_, _*ℤ_}
 use lib.Pow.{pow-pos}
 use mir.Syntax.{w8, w64}
 use mir.Val.{toZ, ofZ}
-use Rattle.integers.specs.Within.{Within}
+use Rattle.integers.specs.Sum.{Within}
 use Rattle.integers.proofs.Machine.{Machine, known, bounded, machs, machine-eq, machine-within}
-use Rattle.recurrence.specs.Selection.{Selects, select}
+use Rattle.recurrence.specs.Recurrence.{Selects, select}
 use Rattle.recurrence.proofs.Selection.{select-selects}
 use Rattle.integers.specs.Flat.{at}
 use Rattle.job.specs.Rules.{bound-over, bound-under}
 use Rattle.stepping.specs.Steps.{filled}
 use Rattle.stepping.specs.Inner.{shifted-by, digit-from, residual-from, MayChoose}
-use Rattle.stepping.proofs.Chosen.{unit-most}
+use Rattle.stepping.proofs.Chosen.{unit-within}
 use Rattle.stepping.proofs.Stepped.{filled-past}
 
 -- A turn for row i: `v` are the residuals as the loop has them, those of the rows below i new and the
@@ -41,7 +41,7 @@ module _ {z s : List ℤ} {n r p f i : ℕ} {v : List ℤ} (h : Begun z s n r p 
 
   -- and how large they are
   unit-bound : 2 ^ f ≤ 2 ^ 40
-  unit-bound = unit-most f (h .bits)
+  unit-bound = unit-within f (h .bits)
 
   W-bound : bound-under * natAbs W ≤ (bound-under * p + bound-over) * 2 ^ f
   W-bound = h .may .bound i (h .below)

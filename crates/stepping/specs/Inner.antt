@@ -1,22 +1,14 @@
 -- What the contracts of inner functions cite; a reader of the promises can skip it. How rows are summed,
 -- what a choice and a step ask, and what a step leaves. The unit is at most 2^40: so are a residual and a
 -- row's weight, a row's sum is within 2^48, and w within 2^45.
-use mathlib.Core.Path.{_≡_}
-use mathlib.Core.List.{List}
+use mathlib.Core.{Path._≡_, List.List, Bool.cond}
 use Prim.Native.Nat.{ℕ, _+_, _*_, _^_, _<_, _≤_, _/_, _%_}
-use lib.IntN.{ℤ, pos, natAbs, _+ℤ_, _-ℤ_, _*ℤ_}
-use lib.ListN.{length, getD}
-use Rattle.integers.specs.Flat.{at, entry}
-use Rattle.job.specs.Rules.{bound-over, bound-under, inner-bits}
-use Rattle.recurrence.specs.Selection.{select}
-use mathlib.Core.Bool.{cond}
-use lib.Dec.{ltb}
-use Rattle.integers.specs.Sum.{dot, weight}
-use Rattle.job.specs.Header.{radix}
-use Rattle.state.specs.declared.State.{State}
+use lib.{IntN.ℤ, IntN.pos, IntN.natAbs, IntN._+ℤ_, IntN._-ℤ_, IntN._*ℤ_, ListN.length, ListN.getD, Dec.ltb}
+use Rattle.integers.specs.{Flat.at, Flat.entry, Sum.dot, Sum.weight}
+use Rattle.job.specs.{Rules.bound-over, Rules.bound-under, Rules.inner-bits, Header.radix}
+use Rattle.recurrence.specs.Recurrence.{select}
+use Rattle.state.specs.{declared.State.State, State.PassesLimits, State.state-last, State.all-steps}
 use Rattle.stepping.specs.Steps.{last-digits, chosen-digits, one-step}
-use Rattle.state.specs.PassesLimits.{PassesLimits}
-use Rattle.state.specs.State.{state-last, all-steps}
 
 -- ---- the sums
 

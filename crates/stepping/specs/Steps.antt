@@ -1,20 +1,13 @@
 -- One step of a state and steps one after the other (document 01, "One step"), on the lists that a state
 -- has, and what they have to do with the recurrence: a state that holds its residuals and digits holds
 -- those of the later steps after them.
-use mathlib.Core.Path.{_≡_}
-use mathlib.Core.List.{List}
+use mathlib.Core.{Path._≡_, List.List}
 use Prim.Native.Nat.{ℕ, _+_, _*_, _<_, _≤_, zero, suc}
-use lib.IntN.{ℤ, pos}
-use lib.ListN.{length, replicate}
+use lib.{IntN.ℤ, IntN.pos, ListN.length, ListN.replicate}
 use Rattle.integers.specs.Flat.{at, entry, stores, flat-vector}
-use Rattle.recurrence.specs.Selection.{select}
-use Rattle.recurrence.specs.Recurrence.{next-digit, next-residual, residual, digit}
-use Rattle.job.specs.Header.{radix}
-use Rattle.state.specs.declared.State.{State}
-use Rattle.state.specs.PassesLimits.{PassesLimits}
-use Rattle.state.specs.State.{state-last, fresh, state-unit, digits-of, all-steps}
-use Rattle.job.specs.Rules.{inner-unit}
-use Rattle.job.specs.declared.Header.{Header}
+use Rattle.recurrence.specs.Recurrence.{select, next-digit, next-residual, residual, digit}
+use Rattle.job.specs.{Header.radix, Rules.inner-unit, declared.Header.Header}
+use Rattle.state.specs.{declared.State.State, State.PassesLimits, State.state-last, State.fresh, State.state-unit, State.digits-of, State.all-steps}
 use Rattle.system.specs.System.{matrix-of, right-side-of}
 
 -- ---- one step on lists

@@ -3,8 +3,8 @@
 ghost use mathlib.Core.Path.{_≡_};
 ghost use Prim.Native.Nat.{_+_, _*_, _/_, _^_, _<_, _≤_};
 ghost use lib.IntN.{pos, natAbs, _+ℤ_, _-ℤ_, _*ℤ_};
-ghost use Rattle.integers.specs.Within.{Within};
-ghost use Rattle.recurrence.specs.Selection.{digit-size, select};
+ghost use Rattle.integers.specs.Sum.{Within};
+ghost use Rattle.recurrence.specs.Recurrence.{digit-size, select};
 ghost use Rattle.stepping.specs.Steps.{filled};
 ghost use Rattle.stepping.specs.Inner.{digit-from, residual-from, MayChoose};
 use job::ROWS;

@@ -11,8 +11,7 @@ use borrow.Author.Tests.{lt-ltb, le-ltb, le-leb, lt-leb}
 use lib.Dec.{leb, ltb}
 use lib.IntN.{ℤ, natAbs}
 use Rattle.integers.proofs.Maximum.{le-or-lt}
-use Rattle.job.specs.Header.{radix, unit}
-use Rattle.job.specs.Limits.{Limits}
+use Rattle.job.specs.Header.{radix, unit, Limits}
 use Rattle.job.proofs.Limits.{radix-least, radix-most, digit-positive, digit-small, unit-most, ltb-quotient}
 use Rattle.system.specs.Rows.{weight-factor, weight-room, light-enough, small-enough, residual-kept}
 use Rattle.system.specs.Inner.{largest-light, residual-most}

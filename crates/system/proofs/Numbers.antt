@@ -12,7 +12,7 @@ use lib.Signed.{mag}
 use mir.Syntax.{w64}
 use mir.Val.{toZ, ofZ}
 use mir.Facts.{toZ-ofZ}
-use Rattle.integers.specs.Within.{Within}
+use Rattle.integers.specs.Sum.{Within}
 use Rattle.integers.specs.Flat.{flat-matrix}
 use Rattle.integers.proofs.Machine.{machs, machine-eq}
 use Rattle.job.specs.Kind.{Kind, system, kind-of, count-of, most-numbers}

@@ -14,8 +14,7 @@ use Rattle.integers.proofs.Flat.{at-flat-vector, entry-flat-matrix}
 use Rattle.integers.proofs.Maximum.{le-or-lt}
 use Rattle.integers.specs.Sum.{weight}
 use Rattle.integers.proofs.Product.{weight-ext}
-use Rattle.job.specs.Header.{unit}
-use Rattle.job.specs.Limits.{Limits}
+use Rattle.job.specs.Header.{unit, Limits}
 use Rattle.system.specs.Rows.{first-row, light-enough, small-enough, residual-kept, heavy-row, large-row, large-residual, system-verdict, Never}
 use Rattle.system.specs.Inner.{largest-light, residual-most, verdict-from, too-heavy, too-large}
 use Rattle.job.specs.declared.Header.{Header}

@@ -1,19 +1,10 @@
 -- What the contracts of inner functions cite; a reader of the promises can skip it.
-use mathlib.Core.Bool.{Bool, cond}
-use mathlib.Core.List.{List, [], _∷_}
+use mathlib.Core.{Bool.Bool, Bool.cond, List.List, List.[], List._∷_}
 use Prim.Native.Nat.{ℕ, _*_, _/_, _^_, _<_, _≤_}
-use lib.Dec.{ltb, eqb}
-use lib.IntN.{ℤ, natAbs}
-use lib.ListN.{length}
-use Rattle.integers.specs.Within.{Within}
-use Rattle.integers.specs.Flat.{at, entry}
-use Rattle.integers.specs.Sum.{weight}
-use Rattle.job.specs.Refusal.{first-refusal}
-use Rattle.job.specs.Rules.{inner-unit, bound-over, bound-under}
-use Rattle.job.specs.declared.Header.{Header}
-use Rattle.system.specs.Rows.{weight-factor, weight-room}
-use Rattle.system.specs.System.{sent}
-use Rattle.job.specs.declared.Verdict.{Verdict}
+use lib.{Dec.ltb, Dec.eqb, IntN.ℤ, IntN.natAbs, ListN.length}
+use Rattle.integers.specs.{Sum.Within, Sum.weight, Flat.at, Flat.entry}
+use Rattle.job.specs.{Refusal.first-refusal, Rules.inner-unit, Rules.bound-over, Rules.bound-under, declared.Header.Header, declared.Verdict.Verdict}
+use Rattle.system.specs.{Rows.weight-factor, Rows.weight-room, System.sent}
 
 -- v has c numbers, none of a magnitude above 2^41, which the f + 2 bits of a number sent keep
 pub record Numbers (c : ℕ) (v : List ℤ) : Type 0 where

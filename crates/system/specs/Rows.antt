@@ -1,18 +1,10 @@
 -- Rows that are too heavy and right-hand sides that are too large (document 01, "The system"; refusals 8 and
 -- 9), and the first row that is.
-use mathlib.Core.Path.{_≡_}
-use mathlib.Core.Bool.{Bool, true, false, not, cond}
-use mathlib.Core.List.{List, [], _∷_}
-use mathlib.Core.Logic.{_↔_}
+use mathlib.Core.{Path._≡_, Bool.Bool, Bool.true, Bool.false, Bool.not, Bool.cond, List.List, List.[], List._∷_, Logic._↔_}
 use Prim.Native.Nat.{ℕ, zero, suc, _*_, _-_, _<_}
-use lib.Dec.{ltb, leb, eqb}
-use lib.IntN.{ℤ, natAbs}
+use lib.{Dec.ltb, Dec.leb, Dec.eqb, IntN.ℤ, IntN.natAbs}
 use Rattle.integers.specs.Sum.{weight}
-use Rattle.job.specs.Header.{radix, unit}
-use Rattle.job.specs.Refusal.{Check, first-refusal}
-use Rattle.job.specs.Rules.{inner-unit, bound-over, bound-under}
-use Rattle.job.specs.declared.Header.{Header}
-use Rattle.job.specs.declared.Verdict.{Verdict}
+use Rattle.job.specs.{Header.radix, Header.unit, Refusal.Check, Refusal.first-refusal, Rules.inner-unit, Rules.bound-over, Rules.bound-under, declared.Header.Header, declared.Verdict.Verdict}
 
 -- Document 01's rule of light rows, 2 × r × p × S at most 2^f × (2p - (r - 1)), where 2 and 1 are the
 -- residual bound's: what a weight S is multiplied by, and what that may come to

@@ -1,15 +1,10 @@
 -- The system of a job (document 01, "The system"): the matrix G, which is the identity less A, and the
 -- right-hand sides b, of each kind, from the numbers as they are sent. All in units of 1/u, u being 2^f.
 -- Rows, columns and coefficients count from 0, so document 01's row i is row i - 1 here.
-use mathlib.Core.Bool.{cond}
-use mathlib.Core.List.{List}
+use mathlib.Core.{Bool.cond, List.List}
 use Prim.Native.Nat.{ℕ, zero, suc, _+_, _*_}
-use lib.Dec.{eqb}
-use lib.IntN.{ℤ, pos, negℤ, _-ℤ_}
-use lib.ListN.{getD}
-use Rattle.job.specs.Header.{unit}
-use Rattle.job.specs.Kind.{Kind, polynomial, rational, system, unused, kind-of}
-use Rattle.job.specs.declared.Header.{Header}
+use lib.{Dec.eqb, IntN.ℤ, IntN.pos, IntN.negℤ, IntN._-ℤ_, ListN.getD}
+use Rattle.job.specs.{Header.unit, Kind.Kind, Kind.polynomial, Kind.rational, Kind.system, Kind.unused, Kind.kind-of, declared.Header.Header}
 
 -- the i-th number sent
 abbrev pub sent : List ℤ → ℕ → ℤ

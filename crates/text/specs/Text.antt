@@ -1,12 +1,8 @@
 -- Text: numbers in decimal, and lines of items with one space between them and a newline at the end. Bytes
 -- are those of ASCII. Cited by the contracts of this crate and by the printout of a frame.
-use mathlib.Core.Path.{_≡_}
-use mathlib.Core.Bool.{cond}
-use mathlib.Core.List.{List, [], _∷_, _++_}
+use mathlib.Core.{Path._≡_, Bool.cond, List.List, List.[], List._∷_, List._++_}
 use Prim.Native.Nat.{ℕ, zero, suc, _+_, _/_, _%_, _≤_}
-use lib.Dec.{ltb}
-use lib.IntN.{ℤ, pos, negsuc}
-use lib.ListN.{length, take, drop}
+use lib.{Dec.ltb, IntN.ℤ, IntN.pos, IntN.negsuc, ListN.length, ListN.take, ListN.drop}
 
 -- the character of a digit from 0 to 9: that of 0 is 48
 abbrev pub digit-char : ℕ → ℕ

@@ -8,7 +8,7 @@ use lib.IntN.{ℤ, pos, negsuc, natAbs, _+ℤ_, _-ℤ_}
 use lib.Signed.{mag, _≤ℤ_}
 use mir.Syntax.{w8, w64}
 use mir.Val.{SFits, toZ, ofZ}
-use Rattle.integers.specs.Within.{Within}
+use Rattle.integers.specs.Sum.{Within}
 use Rattle.integers.proofs.Machine.{known, machs, machine-eq, machine-fits, i8-kept}
 use Rattle.integers.proofs.Maximum.{le-or-lt}
 use Rattle.integers.proofs.Order.{parts→le}

@@ -14,12 +14,11 @@ use lib.ListN.{length, getD-replicate}
 use Rattle.integers.specs.Flat.{entry}
 use Rattle.integers.proofs.Maximum.{le-or-lt}
 use Rattle.state.specs.declared.State.{State}
-use Rattle.state.specs.PastOrder.{SameBelow}
+use Rattle.state.specs.State.{SameBelow, digit-beyond}
 use Rattle.state.proofs.PastOrder.{checked-alike, beyond-ext}
 use Rattle.state.proofs.Lists.{list-from-alike}
 use Rattle.job.specs.Refusal.{first-refusal}
 use Rattle.trace.specs.Trace.{digit-list, zero-record, trace-record, trace-reader-answer, trace-refusal, record-refusal, state-record, record-answer, trace-writer-checks, trace-writer-refusal, record-fields, trace-writer-answer, trace-writer-buffer}
-use Rattle.state.specs.State.{digit-beyond}
 use Rattle.trace.proofs.Digits.{entry-none}
 use Rattle.trace.specs.PastOrder.{RecordZeroPast, RecordZeros, ReadZeros, RecordBelow, SameMade, WriteBelow}
 use Rattle.trace.proofs.Valid.{recorded-valid, record-steps-most}

@@ -11,8 +11,7 @@ use lib.IntN.{ℤ}
 use lib.ListN.{length, take, drop, length-drop}
 use lib.Seq.{take-all}
 use Rattle.bitfields.specs.Layout.{bytes-for, field, fill}
-use Rattle.job.specs.Header.{trace-read-checks}
-use Rattle.job.specs.Limits.{Limits}
+use Rattle.job.specs.Header.{trace-read-checks, Limits}
 use Rattle.job.proofs.Limits.{trace-small}
 use Rattle.job.specs.Refusal.{first-refusal, None, none, also}
 use Rattle.job.proofs.Refusal.{accepted-before, accepted-exactly, refused-before, equal}

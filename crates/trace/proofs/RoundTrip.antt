@@ -12,7 +12,7 @@ use Rattle.bitfields.proofs.Spelling.{bits-each, bytes-fit, fit-append, total-w
 use Rattle.bitfields.proofs.Writing.{write-framed}
 use Rattle.bitfields.proofs.RoundTrip.{fields-write, write-fields}
 use Rattle.bitfields.proofs.Twos.{fit-encodes, fields-numbers, length-numbers, numbers-after}
-use Rattle.job.specs.Limits.{Limits}
+use Rattle.job.specs.Header.{Limits}
 use Rattle.job.proofs.Limits.{trace-small}
 use Rattle.job.specs.declared.Header.{Header}
 use Rattle.header.specs.Header.{header-fields, header-of}

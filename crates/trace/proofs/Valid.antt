@@ -13,11 +13,10 @@ use lib.ListN.{length}
 use Rattle.integers.specs.Flat.{entry}
 use Rattle.bitfields.specs.Layout.{fill, field}
 use Rattle.bitfields.specs.Twos.{Fits, AllFit}
-use Rattle.job.specs.Header.{trace-header-checks, trace-read-checks}
+use Rattle.job.specs.Header.{trace-header-checks, trace-read-checks, Limits}
 use Rattle.job.specs.Refusal.{first-refusal, None, none, also}
 use Rattle.job.proofs.Refusal.{accepted-exactly, equal, not-unequal, fails, not-failed}
 use Rattle.trace.specs.Theorems.{TraceAccepted, RecordTaken}
-use Rattle.job.specs.Limits.{Limits}
 use Rattle.job.proofs.Limits.{trace-limits, trace-read-limits, digit-small, trace-small, last-in-trace}
 use Rattle.job.specs.declared.Header.{Header}
 use Rattle.header.specs.Header.{header-of}

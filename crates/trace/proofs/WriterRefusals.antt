@@ -9,8 +9,7 @@ use lib.IntN.{ℤ}
 use lib.ListN.{length}
 use Rattle.integers.specs.Flat.{at}
 use Rattle.bitfields.specs.Layout.{written}
-use Rattle.job.specs.Header.{trace-header-checks}
-use Rattle.job.specs.Limits.{Limits}
+use Rattle.job.specs.Header.{trace-header-checks, Limits}
 use Rattle.job.proofs.Limits.{trace-limits}
 use Rattle.job.specs.Refusal.{Check, first-refusal}
 use Rattle.job.proofs.Refusal.{accepted-before, refused-before}

@@ -17,7 +17,7 @@ use Rattle.bitfields.specs.Twos.{encode, AllFit}
 use Rattle.bitfields.proofs.Spelling.{bits-each, bits-append, bits-one, fit-append, number-append, number-lt, number-one}
 use Rattle.bitfields.proofs.Writing.{put-joined, put-written, put-zero}
 use Rattle.bitfields.proofs.Twos.{fit-encodes}
-use Rattle.job.specs.Limits.{Limits}
+use Rattle.job.specs.Header.{Limits}
 use Rattle.job.specs.declared.Header.{Header}
 use Rattle.header.specs.Header.{header-fields}
 use Rattle.header.proofs.Header.{fit-header}

@@ -1,21 +1,14 @@
 -- What the contracts of inner functions cite; a reader of the promises can skip it. Digits taken and put
 -- several at a time, as one field, and what the reader of a trace's part after its third byte answers, said
 -- of that part alone.
-use mathlib.Core.Path.{_≡_}
-use mathlib.Core.Bool.{Bool, not, cond}
-use mathlib.Core.List.{List, [], _∷_, _++_, map}
+use mathlib.Core.{Path._≡_, Bool.Bool, Bool.not, Bool.cond, List.List, List.[], List._∷_, List._++_, List.map}
 use Prim.Native.Nat.{ℕ, _+_, _-_, _*_, _/_, _%_, _^_, _<_}
-use lib.Dec.{eqb}
-use lib.IntN.{ℤ, pos}
-use lib.ListN.{length}
+use lib.{Dec.eqb, IntN.ℤ, IntN.pos, ListN.length}
 use Rattle.integers.specs.Flat.{at, entry, list-from}
-use Rattle.bitfields.specs.Layout.{Field, bits, Fit, each, Bytes, field, fill, bytes-for, written}
-use Rattle.bitfields.specs.Twos.{encode, decode, Fits, numbers}
-use Rattle.job.specs.Refusal.{Check, first-refusal}
-use Rattle.job.specs.declared.Header.{Header}
+use Rattle.bitfields.specs.{Layout.Field, Layout.bits, Layout.Fit, Layout.each, Layout.Bytes, Layout.field, Layout.fill, Layout.bytes-for, Layout.written, Twos.encode, Twos.decode, Twos.Fits, Twos.numbers}
+use Rattle.job.specs.{Refusal.Check, Refusal.first-refusal, declared.Header.Header}
 use Rattle.state.specs.State.{digit-beyond}
-use Rattle.trace.specs.Trace.{digit-array, record-of, zero-record, too-many-steps}
-use Rattle.trace.specs.declared.Recorded.{Recorded}
+use Rattle.trace.specs.{Trace.digit-array, Trace.record-of, Trace.zero-record, Trace.too-many-steps, declared.Recorded.Recorded}
 
 -- ---- digits in an array
 

@@ -2,17 +2,12 @@
 -- writer does not look at them, and the record of a state shows nothing that stands past the state's order.
 -- Said of any bytes, any record and any state, whether or not a load made it. `proofs/PastOrder.antt` has a
 -- proof of each statement.
-use mathlib.Core.Path.{_≡_}
-use mathlib.Core.List.{List}
-use mathlib.Core.Logic.{_⊎_}
+use mathlib.Core.{Path._≡_, List.List, Logic._⊎_}
 use Prim.Native.Nat.{ℕ, _<_, _≤_}
 use lib.IntN.{pos}
 use Rattle.integers.specs.Flat.{entry}
-use Rattle.state.specs.State.{all-steps}
-use Rattle.state.specs.declared.State.{State}
-use Rattle.state.specs.PastOrder.{SameBelow}
-use Rattle.trace.specs.Trace.{trace-reader-answer, record-answer, trace-writer-answer, trace-writer-buffer}
-use Rattle.trace.specs.declared.Record.{Record}
+use Rattle.state.specs.{State.all-steps, State.SameBelow, declared.State.State}
+use Rattle.trace.specs.{Trace.trace-reader-answer, Trace.record-answer, Trace.trace-writer-answer, Trace.trace-writer-buffer, declared.Record.Record}
 
 -- ---- a record
 

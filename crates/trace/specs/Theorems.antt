@@ -1,19 +1,13 @@
 -- What is promised of traces and records. The contracts say that the trace reader, the record of a state and
 -- the trace writer answer and leave what `Trace` defines, so each statement here is one about those calls.
 -- `proofs/Theorems.antt` and `proofs/Valid.antt` prove them, each under its name in small letters.
-use mathlib.Core.Path.{_≡_}
-use mathlib.Core.List.{List}
-use mathlib.Core.Logic.{_↔_}
+use mathlib.Core.{Path._≡_, List.List, Logic._↔_}
 use Prim.Native.Nat.{ℕ, _<_, _≤_}
 use lib.ListN.{length, take, drop}
 use Rattle.bitfields.specs.Layout.{Bytes, write}
-use Rattle.job.specs.Refusal.{Decides}
-use Rattle.job.specs.declared.Header.{Header}
-use Rattle.state.specs.State.{all-steps, state-checks}
-use Rattle.state.specs.declared.State.{State}
-use Rattle.trace.specs.Trace.{trace-length, zero-record, trimmed, record-fields, ValidRecord, trace-checks, trace-refusal, trace-record, trace-reader-answer, AcceptedTrace, record-refusal, state-record, record-answer, trace-writer-checks, trace-writer-refusal, trace-writer-answer, trace-writer-buffer}
-use Rattle.trace.specs.PastOrder.{RecordZeroPast, SameMade}
-use Rattle.trace.specs.declared.Record.{Record}
+use Rattle.job.specs.{Refusal.Decides, declared.Header.Header}
+use Rattle.state.specs.{State.all-steps, State.state-checks, declared.State.State}
+use Rattle.trace.specs.{Trace.trace-length, Trace.zero-record, Trace.trimmed, Trace.record-fields, Trace.ValidRecord, Trace.trace-checks, Trace.trace-refusal, Trace.trace-record, Trace.trace-reader-answer, Trace.AcceptedTrace, Trace.record-refusal, Trace.state-record, Trace.record-answer, Trace.trace-writer-checks, Trace.trace-writer-refusal, Trace.trace-writer-answer, Trace.trace-writer-buffer, PastOrder.RecordZeroPast, PastOrder.SameMade, declared.Record.Record}
 
 -- ---- demand 1: the checks of a call decide its refusal
 

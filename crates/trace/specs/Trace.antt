@@ -1,27 +1,15 @@
 -- Traces and records (document 01, "Trace" and "Refused because of the input"): the layout, the condition of
 -- each refusal, and what the trace reader, the record of a state and the trace writer answer. The contracts
 -- of these three calls are equalities with the definitions here; `Theorems` says what follows.
-use mathlib.Core.Path.{_≡_}
-use mathlib.Core.Bool.{Bool, not, cond, _&&_}
-use mathlib.Core.List.{List, [], _∷_, _++_, map}
+use mathlib.Core.{Path._≡_, Bool.Bool, Bool.not, Bool.cond, Bool._&&_, List.List, List.[], List._∷_, List._++_, List.map}
 use Prim.Native.Nat.{ℕ, _+_, _*_, _/_, _%_, _<_, _≤_}
-use lib.Dec.{ltb, eqb}
-use lib.IntN.{ℤ, pos, natAbs}
-use lib.ListN.{length, replicate}
+use lib.{Dec.ltb, Dec.eqb, IntN.ℤ, IntN.pos, IntN.natAbs, ListN.length, ListN.replicate}
 use Rattle.integers.specs.Flat.{at, entry, list-from}
-use Rattle.bitfields.specs.Layout.{Field, each, field, fill, bytes-for, written}
-use Rattle.bitfields.specs.Twos.{encode, numbers}
-use Rattle.job.specs.Header.{trace-read-checks, trace-header-checks, zero-header}
-use Rattle.job.specs.Limits.{Limits}
-use Rattle.job.specs.Refusal.{Check, first-refusal}
-use Rattle.job.specs.Rules.{trace-steps}
-use Rattle.job.specs.declared.Header.{Header}
+use Rattle.bitfields.specs.{Layout.Field, Layout.each, Layout.field, Layout.fill, Layout.bytes-for, Layout.written, Twos.encode, Twos.numbers}
+use Rattle.job.specs.{Header.trace-read-checks, Header.trace-header-checks, Header.zero-header, Header.Limits, Refusal.Check, Refusal.first-refusal, Rules.trace-steps, declared.Header.Header}
 use Rattle.header.specs.Header.{header-fields, header-of}
-use Rattle.state.specs.State.{state-checks, digit-places, digit-beyond}
-use Rattle.state.specs.declared.State.{State}
-use Rattle.trace.specs.declared.Record.{Record}
-use Rattle.trace.specs.declared.Recorded.{Recorded}
-use Rattle.trace.specs.declared.TraceWritten.{TraceWritten}
+use Rattle.state.specs.{State.state-checks, State.digit-places, State.digit-beyond, declared.State.State}
+use Rattle.trace.specs.{declared.Record.Record, declared.Recorded.Recorded, declared.TraceWritten.TraceWritten}
 
 -- ---- the layout
 

@@ -5,7 +5,7 @@ ghost use Prim.Native.Nat.{_+_, _-_, _*_, _<_, _≤_};
 ghost use lib.ListN.{length};
 ghost use lib.Seq.{sets};
 ghost use Rattle.bitfields.specs.Twos.{numbers};
-ghost use Rattle.job.specs.Limits.{Limits};
+ghost use Rattle.job.specs.Header.{Limits};
 ghost use Rattle.job.specs.Refusal.{first-refusal};
 ghost use Rattle.state.specs.State.{all-steps, digit-places};
 ghost use Rattle.trace.specs.Inner.{ZerosAt, part-wrong-length, part-fill-bit-set, size-checks, part-answer};

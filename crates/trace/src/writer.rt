@@ -3,7 +3,7 @@ ghost use mathlib.Core.Path.{_≡_};
 ghost use Prim.Native.Nat.{_+_, _*_, _%_, _<_, _≤_};
 ghost use lib.ListN.{length};
 ghost use Rattle.bitfields.specs.Layout.{written};
-ghost use Rattle.job.specs.Limits.{Limits};
+ghost use Rattle.job.specs.Header.{Limits};
 ghost use Rattle.job.specs.Refusal.{first-refusal};
 ghost use Rattle.job.specs.Rules.{trace-steps};
 ghost use Rattle.state.specs.State.{all-steps, digit-places};

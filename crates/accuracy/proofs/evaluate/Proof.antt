@@ -2,7 +2,7 @@
 use mathlib.Core.Path.{_≡_}
 use Rattle.evaluator.specs.Evaluator.{smaller}
 use Rattle.state.specs.State.{state-last}
-use Rattle.accuracy.specs.Calls.{budgets, advances}
+use Rattle.accuracy.specs.Accuracy.{budgets, advances}
 use Rattle.accuracy.proofs.Promised.{promise-refused, job-last-small, steppable, rows-readable, promise-short, promise-done}
 use borrow.Author.Needs.{needs}
 use Rattle.accuracy.proofs.evaluate.Statement.{statement}

@@ -6,7 +6,7 @@ use native.Mathlib.Omega.{arith}
 use lib.ListN.{length, take}
 use lib.Seq.{take-all}
 use Rattle.evaluator.specs.Evaluator.{smaller}
-use Rattle.accuracy.specs.Calls.{budgets, advances}
+use Rattle.accuracy.specs.Accuracy.{budgets, advances}
 use Rattle.accuracy.proofs.Runs.{allowed-none, allowed-most, allowed-more}
 use Rattle.accuracy.proofs.steps_allowed.Statement.{statement}
 use Rattle.accuracy.proofs.steps_allowed.Tie as tie

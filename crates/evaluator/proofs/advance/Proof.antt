@@ -9,7 +9,7 @@ use borrow.Author.Needs.{needs}
 use borrow.Kind.Array.{good-length, eSInt}
 use lib.ListN.{length, length-map}
 use mir.Syntax.{w8}
-use Rattle.state.specs.PassesLimits.{PassesLimits}
+use Rattle.state.specs.State.{PassesLimits}
 use Rattle.stepping.specs.Inner.{MayStep}
 use Rattle.evaluator.proofs.Calls.{smaller-most, advance-refuses, advance-makes, advance-takes}
 use Rattle.stepping.proofs.Stepping.{steps-have-room, busy-whole, steps-whole}

@@ -1,5 +1,5 @@
 -- A refused call leaves the list; else the rows' readings are put into it.
-use Rattle.state.specs.PassesLimits.{PassesLimits}
+use Rattle.state.specs.State.{PassesLimits}
 use Prim.Native.Nat.{_≤_}
 use lib.ListN.{length}
 use Rattle.evaluator.proofs.Calls.{readings-refuses, readings-writes, readings-takes}

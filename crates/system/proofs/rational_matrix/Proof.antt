@@ -3,7 +3,7 @@ use mathlib.Core.Path.{_≡_, sym}
 use Prim.Native.Nat.{_+_, _-_, _≤_, _^_}
 use native.Mathlib.Omega.{arith}
 use lib.IntN.{negℤ}
-use Rattle.integers.specs.Within.{Within}
+use Rattle.integers.specs.Sum.{Within}
 use Rattle.integers.proofs.Machine.{machs, machine-fits}
 use Rattle.integers.specs.Flat.{stores}
 use Rattle.integers.proofs.Stores.{stores-zero}

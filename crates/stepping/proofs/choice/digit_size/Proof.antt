@@ -6,7 +6,7 @@ use lib.IntN.{natAbs}
 use mir.Syntax.{w64}
 use mir.Val.{toZ}
 use borrow.Author.Needs.{needs}
-use Rattle.recurrence.specs.Selection.{digit-size}
+use Rattle.recurrence.specs.Recurrence.{digit-size}
 use Rattle.stepping.proofs.Chosen.{Given, Raised, top-fits, up-fits, unraised, quotient-fits, quotient-read, raised}
 use Rattle.stepping.proofs.choice.digit_size.Statement.{statement}
 use Rattle.stepping.proofs.choice.digit_size.Tie as tie

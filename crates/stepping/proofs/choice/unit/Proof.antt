@@ -4,7 +4,7 @@ use native.Mathlib.Omega.{arith}
 use lib.IntN.{pos}
 use mir.Syntax.{w64}
 use mir.Facts.{toZ-ofZ}
-use Rattle.stepping.proofs.Chosen.{unit-most}
+use Rattle.stepping.proofs.Chosen.{unit-within}
 use Rattle.stepping.proofs.choice.unit.Statement.{statement}
 use Rattle.stepping.proofs.choice.unit.Tie as tie
 
@@ -12,7 +12,7 @@ pow2-requires : tie.Need-pow2-requires
 pow2-requires c κs = omega arith
 
 to-signed-requires : tie.Need-to-signed-requires
-to-signed-requires c κs = omega (arith, c .pow2 .ensures, unit-most _ (c .before .pre))
+to-signed-requires c κs = omega (arith, c .pow2 .ensures, unit-within _ (c .before .pre))
 
 returns : tie.Need-returns
 returns c = toZ-ofZ {w = w64} (record { sfits = c .to-signed .ok }) ∙ c .to-signed .ensures ∙ ap pos (c .before .pow2 .ensures)

@@ -2,7 +2,7 @@
 use borrow.Author.Needs.{needs}
 use Prim.Native.Nat.{_≤_}
 use native.Mathlib.Omega.{arith}
-use Rattle.job.specs.Limits.{Limits}
+use Rattle.job.specs.Header.{Limits}
 use Rattle.job.proofs.Limits.{digit-small, trace-small}
 use Rattle.job.specs.Rules.{trace-steps}
 use Rattle.trace.proofs.WriterRefusals.{writer-header-limits, refused-digit, writer-refused-header, refused-not, refused-room, refused-steps}
