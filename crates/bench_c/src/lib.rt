@@ -4,12 +4,12 @@ ghost use mathlib.Core.Path.{_≡_};
 ghost use Rattle.evaluator.specs.Evaluator.{loaded};
 ghost use Rattle.trace.specs.Trace.{trace-reader-answer};
 ghost use Rattle.bench_c.specs.Bench.{probed, Rewrites};
+use job::ROWS;
+use system::ENTRIES;
 use trace::Record;
 
-const ROWS: usize = 16; // the rows that a state has room for, and the columns of its matrix
-
 // An entry of the matrix, or past its columns the residual of the row. Rows and columns count from 0.
-fn probe<'a>(g: &'a [i64; 256], z: &'a [i64; 16], row: usize, column: usize) -> i64
+fn probe<'a>(g: &'a [i64; ENTRIES], z: &'a [i64; ROWS], row: usize, column: usize) -> i64
     ensures { λ r. ⌜ r ≡ probed (now (g .entry)) (now (z .entry)) row column ⌝ }
 {
     if ROWS <= row {

@@ -11,20 +11,17 @@ ghost use mathlib.Core.Bool.{true};
 ghost use Prim.Native.Nat.{_+_, _≤_, _<_};
 ghost use lib.IntN.{pos};
 ghost use Rattle.cases.specs.Words.{word-at, Said, Listed};
-use state::State;
+use emethod::State;
+use job::NUMBERS;
+use state::DIGITS;
 use table::LINE;
 use table::Lines;
 use table::WORDS;
 
-// The bytes of the longest frame and of the longest trace, the most numbers of a frame, and the digits that a
-// state has room for, 60 steps of 16 rows.
+// The bytes of the longest frame and of the longest trace.
 const FRAME_BYTES: usize = 1431;
 
 const TRACE_BYTES: usize = 604;
-
-const NUMBERS: usize = 272;
-
-const DIGITS: usize = 960;
 
 // Past every word of the table: no place goes on from there.
 const FAR: usize = 10000;
@@ -118,7 +115,7 @@ fn same_numbers(t: &Lines, place: usize, frame: &[u8]) -> bool
     requires { ⌜ place ≤ 12000 ⌝ }
 {
     let mut v = [0i64; NUMBERS];
-    let a = frame::read_frame(frame, &mut v);
+    let a = emethod::read_frame(frame, &mut v);
     if !says(t, place, a.refusal) || !says(t, place + 1, a.row) || 16 < a.header.n {
         return false;
     }
@@ -190,7 +187,7 @@ fn same_readings(t: &Lines, place: usize, s: State) -> bool
 {
     let mut v = [0i64; 16];
     let n = s.header.n;
-    let refusal = evaluator::readings(s, &mut v);
+    let refusal = emethod::readings(s, &mut v);
     if refusal != 0 {
         return same_list(t, place, &v, 0);
     }
@@ -202,8 +199,8 @@ fn same_trace(t: &Lines, place: usize, s: State) -> bool
     requires { ⌜ place ≤ 20000 ⌝ }
 {
     let mut out = [0u8; TRACE_BYTES];
-    let r = trace::record_of(s);
-    let w = trace::write_trace(r.trace, &mut out);
+    let r = emethod::record_of(s);
+    let w = emethod::write_trace(r.trace, &mut out);
     let words = trace_words(&out);
     same_list(t, place, &words, w.length)
 }
@@ -213,7 +210,7 @@ fn same_trace(t: &Lines, place: usize, s: State) -> bool
 fn difference(t: &Lines, place: usize, frame: &[u8]) -> Part
     requires { ⌜ place ≤ 12000 ⌝ }
 {
-    let l = evaluator::load(frame);
+    let l = emethod::load(frame);
     if !says(t, place, l.refusal) {
         return Part::Refusal;
     }
@@ -223,7 +220,7 @@ fn difference(t: &Lines, place: usize, frame: &[u8]) -> Part
     if !same_numbers(t, place, frame) {
         return Part::Numbers;
     }
-    let a = evaluator::advance(l.state, 60);
+    let a = emethod::advance(l.state, 60);
     let s = a.state;
     let readings = past_same_digits(t, past(t, place + 2), &s.digits, s.header.n, s.k);
     if readings == 0 {

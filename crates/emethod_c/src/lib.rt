@@ -13,14 +13,12 @@ ghost use Rattle.frame.specs.Frame.{frame-writer-answer, frame-writer-buffer};
 ghost use Rattle.trace.specs.Inner.{digits-from};
 ghost use Rattle.emethod_c.specs.Foreign.{accepted-count, answer-of, check-answer, Evaluates, header, frame-answer, job-trace-answer, job-trace-buffer, header-words, words-of, word-count, words-answer, words-left, most-digits, most-words};
 use job::Header;
+use job::ROWS;
+use state::DIGITS;
 
 const FIELD: usize = 256; // the refusal and the row have 8 bits each in an answer
 
 const COUNTS: usize = 1099511627776; // 2^40: the count has the 40 bits above them
-
-const ROWS: usize = 16; // the most rows of a job
-
-const DIGITS: usize = 960; // the most digits of a trace: 60 steps of 16 rows
 
 // The count where there is no refusal, else 0.
 fn accepted_count(refusal: usize, count: usize) -> usize

@@ -2,17 +2,17 @@
 // readings is lent.
 //
 // `load` makes the state of a job frame: the job's matrix and right-hand sides, with 0 steps made. It is
-// refused as the frame is, 1 to 9, with the row that is given with 8 and 9; the state is then the idle one.
+// refused as the frame is; the state is then the idle one.
 //
-// `advance` makes as many steps as the budget allows and as are left, and answers how many. It is refused
-// by 20, 24, 22, 21, the first that holds; the state then comes back as it went in, and 0 steps are
-// counted. The state is looked at once, before the first step: a step keeps what 24 asks. No step copies
-// the matrix.
+// `advance` makes as many steps as the budget allows and as are left, and answers how many. Refused, it gives
+// the state back as it went in and counts 0 steps. The state is looked at once, before the first step: a step
+// keeps what 24 asks. No step copies the matrix.
 //
 // `readings` puts one reading a row, in row order, into the list; the words past the n-th keep their
-// values. It is refused by 20, 24, 23, the first that holds; all words then keep their values.
+// values. Refused, it leaves all words as they were.
 //
-// None of the three requires anything. Each contract is an equality with a definition of
+// None of the three requires anything; docs/FORMAT.md has in words by which numbers each refuses, and in
+// which order. Each contract is an equality with a definition of
 // specs/Evaluator.antt, for every frame and every state. specs/Theorems.antt and specs/PastOrder.antt say
 // what follows from these definitions: which refusals there are and what they leave, what is counted, and
 // that every state of a loaded job passes 20 and 24. That the steps are the recurrence's is said in

@@ -1,14 +1,9 @@
 // Job frames: reading and writing them (document 01, "Job frame" and "Refused because of the input").
 //
-// `read_frame` takes any bytes, and a lent list of words for the numbers. It refuses, in this order: 1, fewer
-// than 3 bytes; 2, kind 3; 3, 4 and 5, p, f and m out of range; 6, a length other than the fields demand; 7,
-// a filling bit that is 1; 8, a row too heavy, and 9, a right side too large, each with the first such row;
-// 23, a list with fewer words than the frame has numbers, of which there are at most 272.
-//
-// `write_frame` takes any header, any numbers, and a lent buffer for the bytes. It refuses 2, a kind or radix
-// code past its table; 14, n outside 1 to 16; 3, 4, 5; 12, another count of numbers than the header demands;
-// 13, a number that does not fit f + 2 bits; 8, 9; 23, a buffer shorter than the frame, which has at most
-// 1,431 bytes.
+// `read_frame` takes any bytes, and a lent list of words for the numbers, of which there are at most 272.
+// `write_frame` takes any header, any numbers, and a lent buffer for the bytes, of which there are at most
+// 1,431. The numbers by which they refuse, in their order, are in specs/Frame.antt, and in words in
+// docs/FORMAT.md.
 //
 // Neither has a precondition. A refusal leaves every lent word and byte as it was and gives a header of
 // zeros, or the length 0; the row is 0 with every number but 8 and 9. Words past the numbers and bytes past

@@ -15,28 +15,28 @@ pub const HEADER_BITS: usize = 24;
 pub const HEADER_BYTES: usize = 3;
 
 // How many values each field has: 2 to its width.
-const KINDS: usize = 4;
+const KIND_VALUES: usize = 4;
 
-const CODES: usize = 4;
+const CODE_VALUES: usize = 4;
 
-const DIGITS: usize = 16;
+const DIGIT_VALUES: usize = 16;
 
-const FRACTIONS: usize = 64;
+const FRACTION_VALUES: usize = 64;
 
-const ORDERS: usize = 16;
+const ORDER_VALUES: usize = 16;
 
-const STEPS: usize = 64;
+const STEP_VALUES: usize = 64;
 
 // What 1 in a field counts in the number of all 24 bits: the values of the fields after it, multiplied.
-const ORDER_UNIT: usize = STEPS;
+const ORDER_UNIT: usize = STEP_VALUES;
 
-const FRACTION_UNIT: usize = ORDERS * ORDER_UNIT;
+const FRACTION_UNIT: usize = ORDER_VALUES * ORDER_UNIT;
 
-const DIGIT_UNIT: usize = FRACTIONS * FRACTION_UNIT;
+const DIGIT_UNIT: usize = FRACTION_VALUES * FRACTION_UNIT;
 
-const CODE_UNIT: usize = DIGITS * DIGIT_UNIT;
+const CODE_UNIT: usize = DIGIT_VALUES * DIGIT_UNIT;
 
-const KIND_UNIT: usize = CODES * CODE_UNIT;
+const KIND_UNIT: usize = CODE_VALUES * CODE_UNIT;
 
 // The header that the first three bytes spell.
 pub fn read_header(s: &[u8]) -> Header
@@ -45,12 +45,12 @@ pub fn read_header(s: &[u8]) -> Header
 {
     let x = bitfields::read_bytes(s, 0, HEADER_BYTES) as usize;
     Header {
-        kind: x / KIND_UNIT % KINDS,
-        code: x / CODE_UNIT % CODES,
-        p: x / DIGIT_UNIT % DIGITS,
-        f: x / FRACTION_UNIT % FRACTIONS,
-        n: x / ORDER_UNIT % ORDERS + 1,
-        m: x % STEPS,
+        kind: x / KIND_UNIT % KIND_VALUES,
+        code: x / CODE_UNIT % CODE_VALUES,
+        p: x / DIGIT_UNIT % DIGIT_VALUES,
+        f: x / FRACTION_UNIT % FRACTION_VALUES,
+        n: x / ORDER_UNIT % ORDER_VALUES + 1,
+        m: x % STEP_VALUES,
     }
 }
 
@@ -59,6 +59,9 @@ pub fn header_number(h: Header) -> u64
     requires { ⌜ Limits h ⌝ }
     ensures { λ r. ⌜ r ≡ number (header-fields h) ⌝ }
 {
-    (((((h.kind * CODES + h.code) * DIGITS + h.p) * FRACTIONS + h.f) * ORDERS + (h.n - 1)) * STEPS
+    (((((h.kind * CODE_VALUES + h.code) * DIGIT_VALUES + h.p) * FRACTION_VALUES + h.f)
+        * ORDER_VALUES
+        + (h.n - 1))
+        * STEP_VALUES
         + h.m) as u64
 }

@@ -1,6 +1,7 @@
 // The printout of a frame: the lines of document 01's example, put into a lent buffer one after the other.
 use integers::widen;
 use job::Header;
+use state::DIGITS;
 use state::State;
 use text::put_byte;
 use text::put_bytes;
@@ -22,9 +23,6 @@ ghost use Rattle.printout.specs.Printout.{items-from, header-line, step-
 // How many bytes print_frame is lent at least: more than any text takes, which is a header's line of 126
 // bytes, 60 lines of 373 and one of 354, at most.
 const TEXT_ROOM: usize = 32768;
-
-// The digits that a state has room for: 60 steps of 16 rows.
-const DIGITS: usize = 960;
 
 // What print_frame answers: a refusal number of the call itself, 0 where there is none, and the number of
 // bytes put.

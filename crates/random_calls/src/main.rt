@@ -13,15 +13,9 @@ use emethod::Evaluated;
 use emethod::Header;
 use emethod::Loaded;
 use emethod::State;
-
-// The places for entries in a state's matrix: 16 rows of 16.
-const ENTRIES: usize = 256;
-
-// The places for residuals, one a row.
-const ROWS: usize = 16;
-
-// The places for digits: 60 steps of 16 rows.
-const DIGITS: usize = 960;
+use job::ROWS;
+use state::DIGITS;
+use system::ENTRIES;
 
 // More than the largest refusal number.
 const TALLIES: usize = 32;

@@ -13,18 +13,12 @@ use emethod::Printed;
 use emethod::Record;
 use emethod::Recorded;
 use emethod::TraceWritten;
+use job::NUMBERS;
+use job::ROWS;
+use state::DIGITS;
 
 // Where the loop ends if the input does not: more vectors than there are.
 const MOST: usize = 10000;
-
-// The most rows of a job.
-const ROWS: usize = 16;
-
-// The places for digits in a record: 60 steps of 16 rows.
-const DIGITS: usize = 960;
-
-// The most numbers of a frame: 16 rows of 16 entries and a right-hand side.
-const NUMBERS: usize = 272;
 
 // The most steps of a job, as a budget for all of them.
 const ALL_STEPS: u64 = 60;
