@@ -6,3 +6,4 @@ pub mod Theorems
 pub mod Unpacking
 pub mod Reader
 pub mod Writer
+pub mod Example

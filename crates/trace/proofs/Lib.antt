@@ -14,3 +14,4 @@ pub mod WriterRefusals
 pub mod Recording
 pub mod PastOrder
 pub mod ExamplePastOrder
+pub mod Example
