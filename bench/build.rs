@@ -1,4 +1,4 @@
-//! Points rustc at the library's archive, which `rt staticlib emethod_c` writes.
+//! Points rustc at the archives of the library and of what is only measured, which `rt staticlib` writes.
 
 use std::env;
 use std::path::Path;
@@ -11,13 +11,15 @@ fn main() {
     }
     let here = env::var("CARGO_MANIFEST_DIR").expect("cargo names the folder of the manifest");
     let folder = Path::new(&here).join("../target/staticlib");
-    let archive = folder.join("libemethod_c.a");
-    println!("cargo:rerun-if-changed={}", archive.display());
-    if !archive.exists() {
-        eprintln!("no {}", archive.display());
-        eprintln!("run `rt staticlib emethod_c` in the repository's root first");
-        exit(1);
-    }
     println!("cargo:rustc-link-search=native={}", folder.display());
-    println!("cargo:rustc-link-lib=static=emethod_c");
+    for name in ["emethod_c", "bench_c"] {
+        let archive = folder.join(format!("lib{name}.a"));
+        println!("cargo:rerun-if-changed={}", archive.display());
+        if !archive.exists() {
+            eprintln!("no {}", archive.display());
+            eprintln!("run `rt staticlib {name}` in the repository's root first");
+            exit(1);
+        }
+        println!("cargo:rustc-link-lib=static={name}");
+    }
 }

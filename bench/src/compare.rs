@@ -44,8 +44,8 @@ impl Tally {
 
 /// Makes one call on both sides, each with its own copy of the same lent memory.
 ///
-/// The answers must agree and so must all words, those around the part that is lent too; past the words that the answer says are written
-/// all must be as before.
+/// The answers must agree and so must all words, those around the part that is lent too; past the words that
+/// the answer says are written all must be as before.
 fn both<T: Copy + PartialEq + Debug>(
     room: usize,
     random: &mut Random,
@@ -212,14 +212,14 @@ fn rewrite_trace(
     room: usize,
     random: &mut Random,
 ) -> Result<(Answer, Vec<u8>), String> {
-    let times = random.between(1, 3) as u64;
+    let more = random.below(3) as u64;
     both_bytes(
         room,
         random,
-        |lent| Plain::rewrite_trace(trace, times, lent),
-        |lent| Library::rewrite_trace(trace, times, lent),
+        |lent| Answer::from(Ok(Plain::rewrite_trace(trace, more, lent))),
+        |lent| Answer::from(Ok(Library::rewrite_trace(trace, more, lent))),
     )
-    .map_err(|what| format!("em_rewrite_trace, {times} times, {what}"))
+    .map_err(|what| format!("bench_rewrite_trace, {more} times more, {what}"))
 }
 
 /// All calls that take a frame.
@@ -243,7 +243,7 @@ fn compare_frame(frame: &[u8], random: &mut Random) -> Result<Answer, String> {
         let other = Library::probe_load(frame, row, column);
         if number != other {
             return Err(format!(
-                "em_probe_load, row {row}, column {column}: {} gives {number}, {} gives {other}",
+                "bench_probe_load, row {row}, column {column}: {} gives {number}, {} gives {other}",
                 Plain::NAME,
                 Library::NAME
             ));
@@ -285,8 +285,8 @@ fn compare_trace(trace: &[u8], random: &mut Random) -> Result<Answer, String> {
     read_trace(trace, room, random)?;
 
     let (written, bytes) = rewrite_trace(trace, AMPLE, random)?;
-    if written.refusal() == 0 && bytes[..written.count()] != *trace {
-        return Err("em_rewrite_trace gives another trace".to_string());
+    if written.count() != 0 && bytes[..written.count()] != *trace {
+        return Err("bench_rewrite_trace gives another trace".to_string());
     }
     let room = room_near(written.count(), random);
     rewrite_trace(trace, room, random)?;

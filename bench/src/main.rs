@@ -1,7 +1,10 @@
-//! Compares the proved E-method library with a plain Rust implementation of the same document, and measures both.
+//! Compares the proved E-method library with a plain Rust implementation of the same document, and measures
+//! both.
 
 mod cases;
 mod compare;
+#[cfg(not(feature = "plain-only"))]
+mod from_c;
 mod inputs;
 mod measure;
 mod plain;
@@ -48,6 +51,11 @@ fn run(inputs: usize, effort: &measure::Effort) -> Result<(), String> {
     let done = cases::run::<Plain>()?;
     cases::run::<Library>()?;
     println!("{done} cases of document 01: both sides right");
+    #[cfg(not(feature = "plain-only"))]
+    {
+        from_c::run()?;
+        println!("the programs in C print what they should, in C99 and as C++");
+    }
     compare::run(inputs, &mut random)?;
     println!("no difference");
     measure::run(effort, &mut random);

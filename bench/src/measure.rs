@@ -43,7 +43,8 @@ struct Timing {
     middle: (f64, f64),
 }
 
-/// Runs both sides in many short rounds. In a round they take turns on the same inputs, and each goes first in every other round.
+/// Runs both sides in many short rounds. In a round they take turns on the same inputs, and each goes first
+/// in every other round.
 ///
 /// A machine that does something else as well spoils single rounds; the medians leave those out.
 fn time_both(
@@ -127,7 +128,7 @@ fn sort(kind: usize, r: usize, n: usize, m: usize) -> Fields {
 fn load<S: Side>(frames: &[Vec<u8>]) -> impl FnMut(usize) + '_ {
     |input| {
         let frame = black_box(&frames[input]);
-        black_box(S::probe_load(frame, input % 4, input % 3));
+        black_box(S::check_frame(frame));
     }
 }
 
@@ -143,7 +144,7 @@ fn trace_write<S: Side>(traces: &[Vec<u8>]) -> impl FnMut(usize) + '_ {
     let mut out = [0; 604];
     move |input| {
         let trace = black_box(&traces[input]);
-        black_box(S::rewrite_trace(trace, TIMES, black_box(&mut out)));
+        black_box(S::rewrite_trace(trace, TIMES - 1, black_box(&mut out)));
     }
 }
 

@@ -1,4 +1,5 @@
-//! The two sides under the same calls: those of emethod.h, with slices for lent memory.
+//! The two sides under the same calls: those of emethod.h and the two that are only measured, with slices for
+//! lent memory.
 
 use crate::plain::{calls, write_frame, Fields, Refusal};
 
@@ -29,7 +30,9 @@ impl From<Result<usize, Refusal>> for Answer {
     }
 }
 
-/// The calls of emethod.h.
+/// The calls of emethod.h, and the two of the crate bench_c: a load of which one number is given, an entry of
+/// G or past column 15 a residual; and a trace read once, written back and then so many times more, of which
+/// the bytes are given, 0 when refused.
 pub trait Side {
     const NAME: &'static str;
 
@@ -39,7 +42,7 @@ pub trait Side {
     fn write_trace(frame: &[u8], budget: u64, out: &mut [u8]) -> Answer;
     fn read_trace(trace: &[u8], words: &mut [i64]) -> Answer;
     fn probe_load(frame: &[u8], row: usize, column: usize) -> i64;
-    fn rewrite_trace(trace: &[u8], times: u64, out: &mut [u8]) -> Answer;
+    fn rewrite_trace(trace: &[u8], more: u64, out: &mut [u8]) -> usize;
 }
 
 /// The plain implementation. No call is inlined into a measuring loop, as none of the library's is.
@@ -79,8 +82,8 @@ impl Side for Plain {
     }
 
     #[inline(never)]
-    fn rewrite_trace(trace: &[u8], times: u64, out: &mut [u8]) -> Answer {
-        calls::rewrite_trace(trace, times, out).into()
+    fn rewrite_trace(trace: &[u8], more: u64, out: &mut [u8]) -> usize {
+        calls::rewrite_trace(trace, more, out).unwrap_or(0)
     }
 }
 
@@ -120,14 +123,14 @@ mod linked {
             room: usize,
         ) -> u64;
         fn em_read_trace(trace: *const u8, length: usize, words: *mut i64, room: usize) -> u64;
-        fn em_probe_load(frame: *const u8, length: usize, row: usize, column: usize) -> i64;
-        fn em_rewrite_trace(
+        fn bench_probe_load(frame: *const u8, length: usize, row: usize, column: usize) -> i64;
+        fn bench_rewrite_trace(
             trace: *const u8,
             length: usize,
-            times: u64,
+            more: u64,
             out: *mut u8,
             room: usize,
-        ) -> u64;
+        ) -> usize;
     }
 
     // Each call hands on the address and the length of a slice, so the memory is there.
@@ -186,24 +189,25 @@ mod linked {
         }
 
         fn probe_load(frame: &[u8], row: usize, column: usize) -> i64 {
-            unsafe { em_probe_load(frame.as_ptr(), frame.len(), row, column) }
+            unsafe { bench_probe_load(frame.as_ptr(), frame.len(), row, column) }
         }
 
-        fn rewrite_trace(trace: &[u8], times: u64, out: &mut [u8]) -> Answer {
-            Answer(unsafe {
-                em_rewrite_trace(
+        fn rewrite_trace(trace: &[u8], more: u64, out: &mut [u8]) -> usize {
+            unsafe {
+                bench_rewrite_trace(
                     trace.as_ptr(),
                     trace.len(),
-                    times,
+                    more,
                     out.as_mut_ptr(),
                     out.len(),
                 )
-            })
+            }
         }
     }
 }
 
-/// Without the archive the plain implementation stands in for the library. Its ratios then show what the clock alone makes of two equal sides.
+/// Without the archives the plain implementation stands in for the library. Its ratios then show what the
+/// clock alone makes of two equal sides.
 #[cfg(feature = "plain-only")]
 impl Side for Library {
     const NAME: &'static str = "plain again";
@@ -232,7 +236,7 @@ impl Side for Library {
         Plain::probe_load(frame, row, column)
     }
 
-    fn rewrite_trace(trace: &[u8], times: u64, out: &mut [u8]) -> Answer {
-        Plain::rewrite_trace(trace, times, out)
+    fn rewrite_trace(trace: &[u8], more: u64, out: &mut [u8]) -> usize {
+        Plain::rewrite_trace(trace, more, out)
     }
 }

@@ -11,7 +11,8 @@ impl<'a> BitReader<'a> {
         BitReader { bytes, at: 0 }
     }
 
-    /// The next field of 1 to 57 bits: with up to 7 bits before it in its first byte it lies within eight bytes.
+    /// The next field of 1 to 57 bits: with up to 7 bits before it in its first byte it lies within eight
+    /// bytes.
     pub fn unsigned(&mut self, bits: usize) -> u64 {
         let rest = &self.bytes[self.at / 8..];
         let window = match rest.first_chunk() {

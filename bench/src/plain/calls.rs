@@ -1,4 +1,4 @@
-//! The calls of emethod.h on the plain side, each put together from document 01's.
+//! The calls of emethod.h and of the crate bench_c on the plain side, each put together from document 01's.
 
 use std::hint::black_box;
 
@@ -65,7 +65,7 @@ fn hand_out(record: &Record, words: &mut [i64]) -> Result<usize, Refusal> {
     Ok(count)
 }
 
-/// After a load, an entry of G, or past column 15 what is left in its row; 0 when refused and past order n.
+/// After a load, an entry of G, or past column 15 the residual of the row; 0 when refused and past order n.
 pub fn probe_load(frame: &[u8], row: usize, column: usize) -> i64 {
     match State::load(frame) {
         Ok(State::Job(job)) if row < job.fields.n => {
@@ -80,13 +80,13 @@ pub fn probe_load(frame: &[u8], row: usize, column: usize) -> i64 {
     }
 }
 
-/// Reads a trace once and writes it back so many times. Gives its bytes.
-pub fn rewrite_trace(trace: &[u8], times: u64, out: &mut [u8]) -> Result<usize, Refusal> {
+/// Reads a trace once, writes it back and then so many times more. Gives its bytes.
+pub fn rewrite_trace(trace: &[u8], more: u64, out: &mut [u8]) -> Result<usize, Refusal> {
     let record = read_trace(trace)?;
-    let mut bytes = 0;
-    for _ in 0..times {
+    let bytes = write_trace(black_box(&record), out)?;
+    for _ in 0..more {
         // Each time anew: the compiler must not see that nothing changed.
-        bytes = write_trace(black_box(&record), out)?;
+        write_trace(black_box(&record), out)?;
     }
     Ok(bytes)
 }

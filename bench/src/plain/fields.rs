@@ -50,7 +50,8 @@ impl Fields {
         field(self.m, 6);
     }
 
-    /// 2, 14, 3, 4, 5. Three bytes hold no order and no radix code out of range, so one order serves readers and writers.
+    /// 2, 14, 3, 4, 5. Three bytes hold no order and no radix code out of range, so one order serves readers
+    /// and writers.
     pub fn check(&self) -> Result<(), Refusal> {
         if self.kind > SYSTEM || self.code > 3 {
             return Err(Refusal::Kind);

@@ -24,7 +24,8 @@ pub fn read_trace(trace: &[u8]) -> Result<Record, Refusal> {
     })
 }
 
-/// The same with eight digits taken at once, as one field of 40 bits: a harder opponent than a plain one, and measured beside it.
+/// The same with eight digits taken at once, as one field of 40 bits: a harder opponent than a plain one, and
+/// measured beside it.
 pub fn read_trace_by_eights(trace: &[u8]) -> Result<Record, Refusal> {
     read_with(trace, |rest, count| {
         let mut digits = vec![0; count];
