@@ -5,6 +5,7 @@ use mathlib.Core.{Path._≡_, Bool.cond, List.List, List.[], List._∷_, List._+
 use Prim.Native.Nat.{ℕ, zero, suc, _+_, _/_, _%_, _<_, _≤_}
 use lib.{Dec.ltb, IntN.ℤ, IntN.pos, ListN.length, ListN.getD, ListN.take, ListN.drop, ListN.replicate}
 use Rattle.integers.specs.Flat.{at}
+use Rattle.frame.specs.Frame.{most-bytes}
 use Rattle.cases.specs.Table.{Case, table}
 
 abbrev pub sized : List ℤ → List ℤ
@@ -43,7 +44,7 @@ word-at ls place = cond (ltb place 735) (at (getD ls (place / 15) []) (place % 1
 -- the word at a place is the number n, which is no more than the bytes of the longest frame
 pub record Said (ls : List (List ℤ)) (place n : ℕ) : Type 0 where
   pub number : word-at ls place ≡ pos n
-  pub small : n ≤ 1431
+  pub small : n ≤ most-bytes
 
 -- the list at a place, with its size before it, is the first n numbers of v
 pub record Listed (ls : List (List ℤ)) (place : ℕ) (v : List ℤ) (n : ℕ) : Type 0 where

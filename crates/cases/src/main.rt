@@ -10,6 +10,7 @@ ghost use mathlib.Core.Path.{_≡_};
 ghost use mathlib.Core.Bool.{true};
 ghost use Prim.Native.Nat.{_+_, _≤_, _<_};
 ghost use lib.IntN.{pos};
+ghost use Rattle.frame.specs.Frame.{most-bytes};
 ghost use Rattle.cases.specs.Words.{word-at, Said, Listed};
 use emethod::State;
 use job::NUMBERS;
@@ -22,6 +23,9 @@ use table::WORDS;
 const FRAME_BYTES: usize = 1431;
 
 const TRACE_BYTES: usize = 604;
+
+// The bytes of the longest frame, as a word of the table: no size in the table is larger.
+const MOST_SIZE: i64 = 1431;
 
 // Past every word of the table: no place goes on from there.
 const FAR: usize = 10000;
@@ -50,7 +54,7 @@ fn word(t: &Lines, place: usize) -> i64
 
 // A natural number as a word.
 fn word_of(n: usize) -> i64
-    requires { ⌜ n ≤ 1431 ⌝ }
+    requires { ⌜ n ≤ most-bytes ⌝ }
     ensures { λ r. ⌜ r ≡ pos n ⌝ }
 {
     integers::to_signed(n as u64)
@@ -59,9 +63,9 @@ fn word_of(n: usize) -> i64
 // A word as a natural number; 0 for one that is negative or past the bytes of the longest frame, as no size
 // and no byte is.
 fn natural(z: i64) -> usize
-    ensures { λ r. ⌜ r ≤ 1431 ⌝ }
+    ensures { λ r. ⌜ r ≤ most-bytes ⌝ }
 {
-    if z < 0 || 1431 < z {
+    if z < 0 || MOST_SIZE < z {
         return 0;
     }
     integers::to_unsigned(z) as usize
@@ -76,7 +80,7 @@ fn says(t: &Lines, place: usize, n: usize) -> bool
 
 // How many words follow, by the word at a place.
 fn size(t: &Lines, place: usize) -> usize
-    ensures { λ r. ⌜ r ≤ 1431 ⌝ }
+    ensures { λ r. ⌜ r ≤ most-bytes ⌝ }
 {
     natural(word(t, place))
 }

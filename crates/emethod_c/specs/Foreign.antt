@@ -97,9 +97,6 @@ abbrev pub WordsDecided : Type 0
 WordsDecided = (s : List ℕ) (room : ℕ) → Decides (words-checks s room) (words-refusal s room)
 
 -- room for every trace: seven words, and a digit in each of 60 steps for each of 16 rows
-abbrev pub most-digits : ℕ
-most-digits = 960
-
 abbrev pub most-words : ℕ
 most-words = 967
 

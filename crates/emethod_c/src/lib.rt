@@ -11,7 +11,8 @@ ghost use Rattle.job.specs.Header.{Limits};
 ghost use Rattle.job.specs.Rules.{trace-steps};
 ghost use Rattle.frame.specs.Frame.{frame-writer-answer, frame-writer-buffer};
 ghost use Rattle.trace.specs.Inner.{digits-from};
-ghost use Rattle.emethod_c.specs.Foreign.{accepted-count, answer-of, check-answer, Evaluates, header, frame-answer, job-trace-answer, job-trace-buffer, header-words, words-of, word-count, words-answer, words-left, most-digits, most-words};
+ghost use Rattle.state.specs.State.{digit-places};
+ghost use Rattle.emethod_c.specs.Foreign.{accepted-count, answer-of, check-answer, Evaluates, header, frame-answer, job-trace-answer, job-trace-buffer, header-words, words-of, word-count, words-answer, words-left, most-words};
 use job::Header;
 use job::ROWS;
 use state::DIGITS;
@@ -129,7 +130,7 @@ fn put_header_words(h: Header, k: usize, words: &mut [i64])
 // loop has a fixed end and asks for its row in each turn, so that words are put one by one: several at once
 // take longer here.
 fn put_step_words(d: &[i8; DIGITS], from: usize, n: usize, words: &mut [i64], to: usize)
-    requires { ⌜ (n ≤ 16) × (from + n ≤ most-digits) × (to + n ≤ length (now words)) × (to ≤ most-words) ⌝ }
+    requires { ⌜ (n ≤ 16) × (from + n ≤ digit-places) × (to + n ≤ length (now words)) × (to ≤ most-words) ⌝ }
     ensures { λ _. ⌜ now (words .exit) ≡ sets (now (words .entry)) to (digits-from (now (d .entry)) from n) ⌝ }
 {
     let mut x: usize = 0;

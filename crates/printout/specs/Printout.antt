@@ -6,7 +6,7 @@ use Prim.Native.Nat.{ℕ, zero, suc, _<_}
 use lib.{Dec.eqb, Dec.ltb, IntN.ℤ, ListN.length, ListN.take}
 use Rattle.bitfields.specs.Layout.{Bytes}
 use Rattle.job.specs.{Rules.last-step, Header.radix, Refusal.Check, Refusal.first-refusal, Refusal.Decides, declared.Header.Header}
-use Rattle.frame.specs.Frame.{frame-refusal, frame-row, frame-numbers}
+use Rattle.frame.specs.Frame.{frame-refusal, frame-row, frame-numbers, most-bytes}
 use Rattle.header.specs.Header.{header-of}
 use Rattle.state.specs.{State.digits-of, State.fresh, declared.State.State}
 use Rattle.stepping.specs.Steps.{steps}
@@ -54,7 +54,7 @@ frame-text s =
 -- An input longer than every frame, which has at most 1,431 bytes, is refused by its header or its length:
 -- the bytes past those change nothing, so that `edigits` may cut its input there or later.
 abbrev pub CutText : Type 0
-CutText = (s : List ℕ) (k : ℕ) → Bytes s → 1431 < k → frame-text (take k s) ≡ frame-text s
+CutText = (s : List ℕ) (k : ℕ) → Bytes s → most-bytes < k → frame-text (take k s) ≡ frame-text s
 
 -- ---- print_frame: refused by 23. It is lent `room` bytes
 
