@@ -1,5 +1,5 @@
 -- The round trips, for every list of widths and so for every format, and for every number.
--- `proofs/RoundTrip.antt` and `proofs/Twos.antt` have a proof of each.
+-- `proofs/RoundTrip.antt`, `proofs/Writing.antt` and `proofs/Twos.antt` have a proof of each.
 use mathlib.Core.{Path._≡_, List.List}
 use Prim.Native.Nat.{ℕ, _^_, _<_}
 use lib.IntN.{ℤ}

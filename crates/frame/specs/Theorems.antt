@@ -1,6 +1,6 @@
 -- What is promised of job frames. By their contracts the frame reader and the frame writer answer and leave
 -- what the definitions of Frame.antt say, whatever they are given, so each statement is one about the two
--- calls. proofs/Theorems.antt has a proof of each.
+-- calls. proofs/Theorems.antt and, of what is accepted, proofs/Valid.antt have a proof of each.
 use mathlib.Core.{Path._≡_, Bool.true, Bool.not, List.List, List._++_, Logic._↔_}
 use Prim.Native.Nat.{ℕ, suc, _<_, _≤_}
 use lib.{IntN.ℤ, ListN.length, ListN.drop}

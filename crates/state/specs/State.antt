@@ -1,5 +1,6 @@
 -- The state (document 01, "Calls" and "Refused because of the state"): its digits, what the idle state and a
--- fresh job are, and the conditions of refusals 20 and 24. Cited by every call that takes a state.
+-- fresh job are, the conditions of refusals 20 and 24, also as facts, and when two states agree below the
+-- order. Cited by every call that takes a state.
 use mathlib.Core.{Bool.Bool, Bool.true, Bool.false, Bool.not, Bool._||_, List.List, List.[], List._∷_, Path._≡_, Logic._↔_}
 use Prim.Native.Nat.{ℕ, zero, suc, _-_, _*_, _<_, _≤_}
 use lib.{Dec.ltb, IntN.ℤ, IntN.pos, IntN.natAbs, ListN.replicate}
