@@ -1,17 +1,18 @@
-//! The cases of document 01, and its vectors.
+//! The cases of the documents, and vectors.
 
 use std::fs;
 use std::path::Path;
 
-use crate::inputs::pack_frame;
+use crate::inputs::{pack_frame, pack_trace};
 use crate::plain::Fields;
 use crate::sides::Side;
 
 const A: [u8; 6] = [0x01, 0x10, 0x44, 0x10, 0x32, 0x00];
 const A_TRACE: [u8; 9] = [0x01, 0x10, 0x44, 0x10, 0x01, 0x08, 0x02, 0x0F, 0x80];
-const A_TEXT: &str = "0 2 1 4 2 4\n1 0 1\n2 1 0\n3 1 0\n4 -1 0\n= 5 8\n";
-const B_TEXT: &str = "1 2 1 4 2 5\n1 1 0\n2 0 -1\n3 0 1\n4 0 0\n5 -1 0\n= 15 -4\n";
-const C_TEXT: &str = "2 2 1 4 1 4\n1 1\n2 1\n3 -1\n4 1\n= 11\n";
+const A_TEXT: &str = "0 2 1 4 2 4 0\n1 0 1\n2 1 0\n3 1 0\n4 -1 0\n= 5 8\n";
+const B_TEXT: &str = "1 2 1 4 2 5 0\n1 1 0\n2 0 -1\n3 0 1\n4 0 0\n5 -1 0\n= 15 -4\n";
+const C_TEXT: &str = "2 2 1 4 1 4 0\n1 1\n2 1\n3 -1\n4 1\n= 11\n";
+const E_TEXT: &str = "0 2 1 4 2 4 1\n1 1 1\n2 0 -1\n3 -1 0\n4 -1 0\n5 1 0\n= 11 8\n";
 
 /// A job with four fraction bits, as a frame.
 fn frame(kind: usize, r: usize, p: usize, n: usize, m: usize, numbers: &[i64]) -> Vec<u8> {
@@ -37,14 +38,16 @@ pub fn frame_text<S: Side>(frame: &[u8]) -> String {
     let answer = S::evaluate(frame, u64::MAX, &mut readings);
     match answer.refusal() {
         0 => {}
-        number @ (8 | 9) => return format!("refused {number} {}\n", answer.row()),
+        8 => return format!("refused 8 {}\n", answer.row()),
         number => return format!("refused {number}\n"),
     }
     let bytes = S::write_trace(frame, u64::MAX, &mut trace).count();
     let count = S::read_trace(&trace[..bytes], &mut words).count();
     let n = words[4] as usize;
     let mut text = String::new();
-    push_line(&mut text, &head(&words[..6]));
+    let mut first = head(&words[..6]);
+    first.push(answer.scale() as i64);
+    push_line(&mut text, &first);
     push_steps(&mut text, n, &words[7..count]);
     text.push_str("= ");
     push_line(&mut text, &readings[..n]);
@@ -85,7 +88,8 @@ fn push_line(text: &mut String, items: &[i64]) {
     text.push('\n');
 }
 
-/// The cases A to H and the edges of m, by one side. Gives how many there are.
+/// The cases A to H and the edges of m, of the scale and of a trace's steps, by one side. Gives how many
+/// there are.
 pub fn run<S: Side>() -> Result<usize, String> {
     let mut done = 0;
     let mut case = |name: &str, right: bool| {
@@ -98,6 +102,10 @@ pub fn run<S: Side>() -> Result<usize, String> {
     let refused = |frame: &[u8]| {
         let answer = S::check_frame(frame);
         (answer.refusal(), answer.row())
+    };
+    let loads = |frame: &[u8], scale: usize| {
+        let answer = S::check_frame(frame);
+        (answer.refusal(), answer.scale()) == (0, scale)
     };
     let curve = |x, p_0| frame(0, 2, 1, 2, 4, &[x, p_0, 8]);
     let mut lent = [0; 1431];
@@ -115,10 +123,10 @@ pub fn run<S: Side>() -> Result<usize, String> {
     case("C", frame_text::<S>(&c) == C_TEXT)?;
 
     case("D", refused(&curve(5, 3)) == (8, 1))?;
-    case("E, 9", refused(&curve(4, 9)) == (9, 1))?;
-    case("E, 8", refused(&curve(4, 8)) == (0, 0))?;
-    case("E, -8", refused(&curve(4, -8)) == (0, 0))?;
-    case("E, -9", refused(&curve(4, -9)) == (9, 1))?;
+    case("E, 9", frame_text::<S>(&curve(4, 9)) == E_TEXT)?;
+    case("E, 8", loads(&curve(4, 8), 0))?;
+    case("E, -8", loads(&curve(4, -8), 0))?;
+    case("E, -9", loads(&curve(4, -9), 1))?;
 
     let four = |p, x| frame(0, 4, p, 2, 4, &[x, 3, 8]);
     case("F, p 2, x 1", refused(&four(2, 1)) == (0, 0))?;
@@ -142,6 +150,37 @@ pub fn run<S: Side>() -> Result<usize, String> {
     case("m 61 at r 2", steps(2, 1, 61) == (5, 0))?;
     case("m 15 at r 16", steps(16, 8, 15) == (0, 0))?;
     case("m 16 at r 16", steps(16, 8, 16) == (5, 0))?;
+
+    // The scale goes by the largest right side, in whichever row it is.
+    let sides = |r, b: [i64; 2]| frame(0, r, r - 1, 2, 4, &[0, b[0], b[1]]);
+    case("1 at r 2", loads(&sides(2, [0, 16]), 1))?;
+    case("above 1 at r 2", loads(&sides(2, [17, -9]), 2))?;
+    case("-2 at r 2", loads(&sides(2, [0, -32]), 2))?;
+    case("-1/2 at r 4", loads(&sides(4, [8, -8]), 0))?;
+    case("below -1/2 at r 4", loads(&sides(4, [0, -9]), 1))?;
+    case("-2 at r 4", loads(&sides(4, [-32, 31]), 1))?;
+    case("-2 at r 16", loads(&sides(16, [-32, 0]), 1))?;
+
+    let high = |r, m, p_0| refused(&frame(0, r, r - 1, 2, m, &[0, p_0, 8]));
+    case("m 59, s 1 at r 2", high(2, 59, 16) == (0, 0))?;
+    case("m 60, s 1 at r 2", high(2, 60, 9) == (15, 0))?;
+    case("m 58, s 2 at r 2", high(2, 58, -32) == (0, 0))?;
+    case("m 59, s 2 at r 2", high(2, 59, 17) == (15, 0))?;
+    case("m 14, s 1 at r 16", high(16, 14, 31) == (0, 0))?;
+    case("m 15, s 1 at r 16", high(16, 15, 9) == (15, 0))?;
+    let heavy = frame(0, 2, 1, 2, 60, &[5, 9, 8]);
+    case("8 before 15", refused(&heavy) == (8, 1))?;
+
+    // Traces of radix 2 and order 1, all digits 0.
+    let traced = |m, k| {
+        let trace = pack_trace(&fields(0, 2, 1, 1, m), k, &vec![0; k]);
+        let answer = S::read_trace(&trace, &mut [0; 967]);
+        (answer.refusal(), answer.count())
+    };
+    case("k is m + 2", traced(4, 6) == (0, 13))?;
+    case("k is m + 3", traced(4, 7) == (10, 0))?;
+    case("k 60 at r 2", traced(59, 60) == (0, 67))?;
+    case("k 61 at r 2", traced(59, 61) == (10, 0))?;
     Ok(done)
 }
 

@@ -12,7 +12,7 @@ const GUARD: usize = 8;
 /// More numbers than any frame holds, more words than any trace, more bytes than any of the two.
 const AMPLE: usize = 1500;
 
-/// How often each refusal came up, and how often none.
+/// How often each number came up: each refusal, with 0 for none, or each scale.
 pub struct Tally([usize; 256]);
 
 impl Tally {
@@ -20,23 +20,28 @@ impl Tally {
         Tally([0; 256])
     }
 
-    fn add(&mut self, answer: Answer) {
-        self.0[answer.refusal()] += 1;
+    fn add(&mut self, number: usize) {
+        self.0[number] += 1;
     }
 
-    /// `accepted 5, refused 1: 2, 6: 3`
+    /// Of refusals: `accepted 5, refused 1: 2, 6: 3`
     fn text(&self) -> String {
-        let refused: Vec<String> = (1..256)
+        format!("accepted {}, refused {}", self.0[0], self.list(1))
+    }
+
+    /// From a first number on: `1: 2, 6: 3`
+    fn list(&self, first: usize) -> String {
+        let items: Vec<String> = (first..256)
             .filter(|&number| self.0[number] > 0)
             .map(|number| format!("{number}: {}", self.0[number]))
             .collect();
-        format!("accepted {}, refused {}", self.0[0], refused.join(", "))
+        items.join(", ")
     }
 
-    /// Random inputs that never get a certain refusal would compare less than they seem to.
+    /// Random inputs that never get a certain number would compare less than they seem to.
     fn expect(&self, what: &str, numbers: &[usize]) -> Result<(), String> {
         match numbers.iter().find(|&&number| self.0[number] == 0) {
-            Some(number) => Err(format!("the random {what} never get the answer {number}")),
+            Some(number) => Err(format!("the random {what} {number} never comes up")),
             None => Ok(()),
         }
     }
@@ -112,7 +117,10 @@ fn both_bytes(
 
 fn answer_text(answer: Answer) -> String {
     let (refusal, row, count) = (answer.refusal(), answer.row(), answer.count());
-    format!("refusal {refusal} row {row} count {count}")
+    format!(
+        "refusal {refusal} row {row} count {count} scale {}",
+        answer.scale()
+    )
 }
 
 fn hex(bytes: &[u8]) -> String {
@@ -295,9 +303,14 @@ fn compare_trace(trace: &[u8], random: &mut Random) -> Result<Answer, String> {
 
 /// A trace of a random job after a random budget, then damaged now and then.
 fn random_trace(random: &mut Random) -> Result<Vec<u8>, String> {
-    let fields = inputs::random_fields(random);
+    let mut fields = inputs::random_fields(random);
     let numbers = Light::Edges.numbers(&fields, random);
-    let frame = inputs::pack_frame(&fields, &numbers);
+    let mut frame = inputs::pack_frame(&fields, &numbers);
+    // Fewer steps where m + s of them are too many.
+    while Plain::check_frame(&frame).refusal() == 15 {
+        fields.m -= 1;
+        frame = inputs::pack_frame(&fields, &numbers);
+    }
     let budget = random_budget(random);
     let mut bytes = vec![0; AMPLE];
     let mut words = vec![0; AMPLE];
@@ -316,15 +329,20 @@ fn random_trace(random: &mut Random) -> Result<Vec<u8>, String> {
 
 /// Compares both sides on so many frames, calls of the frame writer and traces.
 pub fn run(count: usize, random: &mut Random) -> Result<(), String> {
-    let mut tally = Tally::new();
+    let (mut tally, mut scales) = (Tally::new(), Tally::new());
     for _ in 0..count {
         let frame = inputs::random_frame(random);
         let answer = compare_frame(&frame, random)
             .map_err(|what| format!("{what}\nframe: {}", hex(&frame)))?;
-        tally.add(answer);
+        tally.add(answer.refusal());
+        if answer.refusal() == 0 {
+            scales.add(answer.scale());
+        }
     }
     println!("{count} frames: {}", tally.text());
-    tally.expect("frames", &[0, 1, 2, 3, 4, 5, 6, 7, 8, 9])?;
+    tally.expect("frames: refusal", &[0, 1, 2, 3, 4, 5, 6, 7, 8, 15])?;
+    println!("scales of the accepted ones: {}", scales.list(0));
+    scales.expect("frames: scale", &[0, 1, 2])?;
 
     let mut tally = Tally::new();
     for _ in 0..count {
@@ -332,18 +350,18 @@ pub fn run(count: usize, random: &mut Random) -> Result<(), String> {
         let (answer, _) = write_frame(&fields, &numbers, AMPLE, random)?;
         let room = room_near(answer.count(), random);
         write_frame(&fields, &numbers, room, random)?;
-        tally.add(answer);
+        tally.add(answer.refusal());
     }
     println!("{count} calls of the frame writer: {}", tally.text());
-    tally.expect("jobs", &[0, 2, 3, 4, 5, 8, 9, 12, 13, 14])?;
+    tally.expect("jobs: refusal", &[0, 2, 3, 4, 5, 8, 12, 13, 14, 15])?;
 
     let mut tally = Tally::new();
     for _ in 0..count {
         let trace = random_trace(random)?;
         let answer = compare_trace(&trace, random)
             .map_err(|what| format!("{what}\ntrace: {}", hex(&trace)))?;
-        tally.add(answer);
+        tally.add(answer.refusal());
     }
     println!("{count} traces: {}", tally.text());
-    tally.expect("traces", &[0, 1, 2, 3, 4, 5, 6, 7, 10, 11])
+    tally.expect("traces: refusal", &[0, 1, 2, 3, 4, 5, 6, 7, 10, 11])
 }

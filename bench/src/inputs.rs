@@ -77,20 +77,22 @@ pub fn random_fields(random: &mut Random) -> Fields {
         p: random.between(r / 2, r - 1),
         f: random.between(4, 40),
         n: random.between(1, 16),
+        // Often the most, or so many fewer as a scale takes.
         m: if random.one_in(4) {
-            most_steps
+            most_steps - random.pick(&[0, 0, 1, 2])
         } else {
             random.between(1, most_steps)
         },
     }
 }
 
-/// Numbers whose rows are light enough and whose right sides are small enough.
+/// Numbers whose rows are light enough.
 #[derive(Clone, Copy, PartialEq, Eq)]
 pub enum Light {
-    /// Often zero or light to the last bit, with rows that are full or nearly empty.
+    /// Often zero or light to the last bit, with rows that are full or nearly empty, and right sides of every
+    /// size, often at the edge of a scale.
     Edges,
-    /// Anything, with rows that are full.
+    /// Anything, with rows that are full, and right sides up to 1/2: the scale is 0.
     Full,
 }
 
@@ -101,6 +103,10 @@ impl Light {
         let p = fields.p as i64;
         let unit = 1i64 << fields.f;
         let limit = unit * (2 * p - (r - 1)) / (2 * r * p);
+        let largest = self.largest_side(unit, random);
+        // The number 2 itself does not fit, but -2 does.
+        let right_side =
+            |random: &mut Random| (self.part(largest, random) * random.sign()).min(2 * unit - 1);
         let mut numbers = Vec::new();
         if fields.kind == 2 {
             for row in 0..n {
@@ -108,7 +114,7 @@ impl Light {
                 for (column, g) in self.split(weight, n, random).into_iter().enumerate() {
                     numbers.push(if row == column { unit - g } else { -g });
                 }
-                numbers.push(self.part(unit / 2, random) * random.sign());
+                numbers.push(right_side(random));
             }
             return numbers;
         }
@@ -119,7 +125,7 @@ impl Light {
         };
         numbers.push(x);
         for _ in 0..n {
-            numbers.push(self.part(unit / 2, random) * random.sign());
+            numbers.push(right_side(random));
         }
         if fields.kind == 1 {
             for row in 1..n {
@@ -129,6 +135,14 @@ impl Light {
             }
         }
         numbers
+    }
+
+    /// How large a job's right sides may be: the last that a scale takes, or the first that it does not.
+    fn largest_side(self, unit: i64, random: &mut Random) -> i64 {
+        if self == Light::Full || random.one_in(2) {
+            return unit / 2;
+        }
+        random.pick(&[unit / 2 + 1, unit, unit + 1, 2 * unit])
     }
 
     /// A number from 0 to a limit.
@@ -204,7 +218,7 @@ pub fn random_frame(random: &mut Random) -> Vec<u8> {
             let at = random.below(numbers.len());
             numbers[at] = edge_number(&fields, random);
         }
-        // Right sides and rows just past their limits.
+        // Rows just past their limit, right sides just past a scale's.
         2 | 3 => {
             let at = random.below(numbers.len());
             numbers[at] += random.pick(&[-2, -1, 1, 2]);
@@ -239,6 +253,8 @@ pub fn damage_trace(fields: &Fields, k: usize, digits: &[i64], random: &mut Rand
     let mut fields = *fields;
     let mut k = k;
     let mut digits = digits.to_vec();
+    let (m, most) = (fields.m, 60 / (fields.code + 1));
+    let other_k = [0, k + 1, m, m + 1, m + 2, m + 3, most, most + 1, 63];
     match random.below(24) {
         // One digit at an edge.
         0 | 1 if !digits.is_empty() => {
@@ -253,10 +269,10 @@ pub fn damage_trace(fields: &Fields, k: usize, digits: &[i64], random: &mut Rand
             }
         }
         // Another number of steps, and the digits that were there.
-        3 => k = random.pick(&[0, k + 1, fields.m, fields.m + 1, 63]),
+        3 => k = random.pick(&other_k),
         // Another number of steps, and as many digits as it demands.
         4 => {
-            k = random.pick(&[0, k + 1, fields.m, fields.m + 1, 63]);
+            k = random.pick(&other_k);
             digits.resize(k * fields.n, 0);
         }
         // A field at an edge, and the digits that were there.

@@ -1,4 +1,4 @@
-//! Compares the proved E-method library with a plain Rust implementation of the same document, and measures
+//! Compares the proved E-method library with a plain Rust implementation of the same documents, and measures
 //! both.
 
 mod cases;
@@ -50,7 +50,7 @@ fn run(inputs: usize, effort: &measure::Effort) -> Result<(), String> {
     let mut random = Random::new(SEED);
     let done = cases::run::<Plain>()?;
     cases::run::<Library>()?;
-    println!("{done} cases of document 01: both sides right");
+    println!("{done} cases of the documents: both sides right");
     #[cfg(not(feature = "plain-only"))]
     {
         from_c::run()?;

@@ -100,14 +100,22 @@ fn quantile(values: &mut [f64], quarters: usize) -> f64 {
     values[(values.len() - 1) * quarters / 4]
 }
 
-fn frames(fields: Fields, random: &mut Random) -> Vec<Vec<u8>> {
+/// Frames of this scale, 0 or 1. A curve of scale 1 starts high: its p_0 is 1/2 to 1.
+fn frames(fields: Fields, scale: usize, random: &mut Random) -> Vec<Vec<u8>> {
     let mut frames = Vec::new();
     for _ in 0..INPUTS {
         let mut fields = fields;
         // With a radix above 2 the largest digit differs from frame to frame.
         let r = 2 << fields.code;
         fields.p = random.between(r / 2, r - 1);
-        frames.push(pack_frame(&fields, &Light::Full.numbers(&fields, random)));
+        let mut numbers = Light::Full.numbers(&fields, random);
+        if scale == 1 {
+            numbers[1] = numbers[1].abs() + (1 << (fields.f - 1));
+        }
+        let frame = pack_frame(&fields, &numbers);
+        let found = Plain::check_frame(&frame).scale();
+        assert_eq!(found, scale, "a measured frame has another scale");
+        frames.push(frame);
     }
     frames
 }
@@ -171,18 +179,24 @@ pub fn run(effort: &Effort, random: &mut Random) {
         ("rational n 16 r 16 m 15", sort(1, 16, 16, 15)),
         ("system n 16 r 2 m 60", sort(2, 2, 16, 60)),
     ];
-    let inputs = sorts.map(|(name, fields)| (name, frames(fields, random)));
+    // As many steps as those of scale 0: the last is m + s.
+    let high_sorts = [
+        ("polynomial n 5 r 2 m 45 s 1", sort(0, 2, 5, 45)),
+        ("rational n 16 r 16 m 14 s 1", sort(1, 16, 16, 14)),
+    ];
+    let inputs = sorts.map(|(name, fields)| (name, frames(fields, 0, random)));
+    let high = high_sorts.map(|(name, fields)| (name, frames(fields, 1, random)));
     let heading = |what: &str| {
         let (plain, library) = (Plain::NAME, Library::NAME);
         println!(
-            "\n{what:<36} {:>10} {:>14}   ratio  middle half of the rounds",
+            "\n{what:<38} {:>10} {:>14}   ratio  middle half of the rounds",
             format!("{plain} ns"),
             format!("{library} ns"),
         );
     };
     let line = |what: &str, timing: &Timing| {
         println!(
-            "{what:<36} {:>10.0} {:>14.0} {:>7.2}  {:.2} to {:.2}",
+            "{what:<38} {:>10.0} {:>14.0} {:>7.2}  {:.2} to {:.2}",
             timing.plain, timing.library, timing.ratio, timing.middle.0, timing.middle.1
         );
     };
@@ -193,7 +207,7 @@ pub fn run(effort: &Effort, random: &mut Random) {
         let timing = time_both(effort, load::<Plain>(frames), load::<Library>(frames));
         line(&format!("load, {name}"), &timing);
     }
-    for (name, frames) in &inputs {
+    for (name, frames) in inputs.iter().chain(&high) {
         let timing = time_both(effort, job::<Plain>(frames), job::<Library>(frames));
         line(&format!("whole job, {name}"), &timing);
     }
@@ -232,7 +246,7 @@ pub fn run(effort: &Effort, random: &mut Random) {
     let with_n = [1, 2, 4, 8, 16].map(|n| (n, 60));
     let with_m = [10, 20, 40, 60].map(|m| (16, m));
     for (n, m) in with_n.into_iter().chain(with_m) {
-        let frames = frames(sort(2, 2, n, m), random);
+        let frames = frames(sort(2, 2, n, m), 0, random);
         let timing = time_both(effort, job::<Plain>(&frames), job::<Library>(&frames));
         line(&format!("n {n:>2}, m {m}"), &timing);
     }

@@ -1,9 +1,10 @@
 //! The two sides under the same calls: those of emethod.h and the two that are only measured, with slices for
 //! lent memory.
 
-use crate::plain::{calls, write_frame, Fields, Refusal};
+use crate::plain::calls::{self, Scaled};
+use crate::plain::{write_frame, Fields, Refusal};
 
-/// An answer that carries a refusal, a row and a count.
+/// An answer that carries a refusal, a row, a count and a scale: 8, 8, 40 and 8 bits from the lowest on.
 #[derive(Clone, Copy, Debug, PartialEq, Eq)]
 pub struct Answer(pub u64);
 
@@ -17,16 +18,27 @@ impl Answer {
     }
 
     pub fn count(self) -> usize {
-        (self.0 / 65536) as usize
+        (self.0 / 65536 % (1 << 40)) as usize
+    }
+
+    pub fn scale(self) -> usize {
+        (self.0 >> 56) as usize
     }
 }
 
-impl From<Result<usize, Refusal>> for Answer {
-    fn from(result: Result<usize, Refusal>) -> Answer {
+impl From<Result<Scaled, Refusal>> for Answer {
+    fn from(result: Result<Scaled, Refusal>) -> Answer {
         Answer(match result {
-            Ok(count) => 65536 * count as u64,
+            Ok(Scaled { count, scale }) => 65536 * count as u64 + ((scale as u64) << 56),
             Err(refusal) => refusal.number() + 256 * refusal.row(),
         })
+    }
+}
+
+/// Of calls that give no scale.
+impl From<Result<usize, Refusal>> for Answer {
+    fn from(result: Result<usize, Refusal>) -> Answer {
+        result.map(|count| Scaled { count, scale: 0 }).into()
     }
 }
 

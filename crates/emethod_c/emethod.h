@@ -1,14 +1,16 @@
 /* The E-method evaluator for host tools in C and C++ on x86-64 Linux: link libemethod_c.a, which
  * `rt staticlib emethod_c` writes. docs/FORMAT.md describes frames, traces and every refusal in full;
- * example.c beside this file packs a frame, evaluates it and prints its readings.
+ * example.c beside this file packs a frame, evaluates it and prints its values.
  *
- * Every call takes numbers and lent memory, and answers one number that carries three:
+ * Every call takes numbers and lent memory, and answers one number that carries four:
  *
- *     answer = refusal + 256 * row + 65536 * count
+ *     answer = refusal + 256 * row + 65536 * count + 2^56 * scale
  *
  * refusal   0, or why the call was refused: one of EM_REFUSED_..
- * row       with EM_REFUSED_HEAVY and EM_REFUSED_RIGHT_SIDE the first such row, from 1; else 0
- * count     what each call says below; 0 when refused
+ * row       with EM_REFUSED_HEAVY the first such row, from 1; else 0
+ * count     what each call says below, less than 2^40; 0 when refused
+ * scale     from em_check_frame and em_evaluate the frame's scale s, told below; 0 when refused, and from the
+ *           other calls
  *
  * What cannot be done is refused, whatever the numbers and bytes are, and a refusal changes no lent memory.
  * Memory past what a call writes keeps its values too. No call allocates, and none keeps anything: what is
@@ -31,7 +33,8 @@ extern "C" {
 
 #define EM_REFUSAL(answer) ((unsigned)((answer) % 256))
 #define EM_ROW(answer) ((unsigned)((answer) / 256 % 256))
-#define EM_COUNT(answer) ((size_t)((answer) / 65536))
+#define EM_COUNT(answer) ((size_t)((answer) / 65536 % ((uint64_t)1 << 40)))
+#define EM_SCALE(answer) ((unsigned)((answer) >> 56))
 
 /* Room that is always enough, in elements. */
 #define EM_READINGS 16      /* readings: one a row */
@@ -46,59 +49,69 @@ enum em_kind {
     EM_SYSTEM = 2
 };
 
-/* In the words below r is the radix, n the order, p the largest digit, f the fraction bits, m the steps of a
- * job, and k the steps made. */
+/* In the words below r is the radix, n the order, p the largest digit, f the fraction bits, m the steps that
+ * a frame asks for, s its scale, and k the steps made.
+ *
+ * The right sides of a frame are the p_0 to p_(n-1) of a curve, or the b_i of a system. Its scale is the
+ * smallest s, 0 or more, for which every right side is at most r^s / 2 in absolute value: 0 where all are
+ * within 1/2, and never above 2 where r is 2, or above 1 where r is more. The job works on the right sides
+ * divided by r^s and has m + s steps. A caller multiplies by r^s again:
+ *
+ *     value = reading / r^k * r^s
+ */
 enum em_refusal {
     EM_ACCEPTED = 0,
-    EM_REFUSED_SHORT = 1,      /* fewer than 3 bytes; a trace: fewer than 4 */
-    EM_REFUSED_KIND = 2,       /* kind 3; from em_write_frame a kind above 2 or a radix code above 3 */
-    EM_REFUSED_P = 3,          /* p outside r/2 to r - 1 */
-    EM_REFUSED_F = 4,          /* f outside 4 to 40 */
-    EM_REFUSED_M = 5,          /* m is 0, or m * log2(r) is above 60 */
-    EM_REFUSED_LENGTH = 6,     /* a length other than the fields demand */
-    EM_REFUSED_FILL = 7,       /* a filling bit after the last number or digit is 1 */
-    EM_REFUSED_HEAVY = 8,      /* a row is too heavy: its |entries| of I - A add up to more than
-                                  (2p - r + 1) / (2rp) */
-    EM_REFUSED_RIGHT_SIDE = 9, /* a right side is above 1/2 in absolute value */
-    EM_REFUSED_K = 10,         /* a trace: k is above m */
-    EM_REFUSED_DIGIT = 11,     /* a trace: a digit is above p in absolute value */
-    EM_REFUSED_COUNT = 12,     /* em_write_frame: another count of numbers than kind and n demand */
-    EM_REFUSED_NUMBER = 13,    /* em_write_frame: a number does not fit f + 2 bits */
-    EM_REFUSED_N = 14,         /* em_write_frame: n outside 1 to 16 */
-    EM_REFUSED_ROOM = 23       /* lent memory too short for what is to be written */
+    EM_REFUSED_SHORT = 1,   /* fewer than 3 bytes; a trace: fewer than 4 */
+    EM_REFUSED_KIND = 2,    /* kind 3; from em_write_frame a kind above 2 or a radix code above 3 */
+    EM_REFUSED_P = 3,       /* p outside r/2 to r - 1 */
+    EM_REFUSED_F = 4,       /* f outside 4 to 40 */
+    EM_REFUSED_M = 5,       /* m is 0, or m * log2(r) is above 60 */
+    EM_REFUSED_LENGTH = 6,  /* a length other than the fields demand */
+    EM_REFUSED_FILL = 7,    /* a filling bit after the last number or digit is 1 */
+    EM_REFUSED_HEAVY = 8,   /* a row is too heavy: its |entries| of I - A add up to more than
+                               (2p - r + 1) / (2rp) */
+    EM_REFUSED_K = 10,      /* a trace: k is above m + 2, or k * log2(r) is above 60 */
+    EM_REFUSED_DIGIT = 11,  /* a trace: a digit is above p in absolute value */
+    EM_REFUSED_COUNT = 12,  /* em_write_frame: another count of numbers than kind and n demand */
+    EM_REFUSED_NUMBER = 13, /* em_write_frame: a number does not fit f + 2 bits */
+    EM_REFUSED_N = 14,      /* em_write_frame: n outside 1 to 16 */
+    EM_REFUSED_STEPS = 15,  /* (m + s) * log2(r) is above 60 */
+    EM_REFUSED_ROOM = 23    /* lent memory too short for what is to be written */
 };
 
-/* Loads a frame and lets it go. count: how many numbers it holds. Refused by 1 to 9. */
+/* Loads a frame and lets it go. count: how many numbers it holds. scale: s. Refused by 1 to 8, 15. */
 uint64_t em_check_frame(const uint8_t *frame, size_t length);
 
-/* Loads a frame, makes as many of its m steps as the budget allows, and writes n readings, row by row.
- * count: the steps made, k. The reading Y of a row stands for Y / r^k: in every solution of all rows this
- * row's value is at most p / ((r - 1) * r^k) away from it. Row 1 of a curve is the curve's value at x.
- * Refused by 1 to 9, 23. A budget of 0 is not refused by 22: k is 0, and so is each reading. */
+/* Loads a frame, makes as many of its m + s steps as the budget allows, and writes n readings, row by row.
+ * count: the steps made, k. scale: s. The reading Y of a row stands for Y / r^k * r^s: in every solution of
+ * all rows this row's value is at most p * r^s / ((r - 1) * r^k) away from it. Row 1 of a curve is the
+ * curve's value at x. Refused by 1 to 8, 15, 23. A budget of 0 is not refused by 22: k is 0, and so is each
+ * reading. */
 uint64_t em_evaluate(const uint8_t *frame, size_t length, uint64_t budget, int64_t *readings, size_t room);
 
 /* Writes a frame. count: its bytes.
  *
  * kind   0 to 2, as em_kind        f   4 to 40
  * code   0 to 3 for r 2, 4, 8, 16  n   1 to 16
- * p      r/2 to r - 1              m   1 or more, with m * log2(r) at most 60
+ * p      r/2 to r - 1              m   1 or more, with (m + s) * log2(r) at most 60
  *
  * Each number is -2^(f + 1) to 2^(f + 1) - 1 and stands for itself divided by 2^f. Their order:
  * polynomial   x, p_0 to p_(n-1)                          n + 1 numbers
  * rational     x, p_0 to p_(n-1), q_1 to q_(n-1); q_0 = 1   2 * n numbers
  * system       row by row a_i1 to a_in, then b_i          n * (n + 1) numbers
  *
- * Refused by 2, 14, 3, 4, 5, 12, 13, 8, 9, 23. */
+ * Refused by 2, 14, 3, 4, 5, 12, 13, 8, 15, 23. */
 uint64_t em_write_frame(size_t kind, size_t code, size_t p, size_t f, size_t n, size_t m,
                         const int64_t *numbers, size_t length, uint8_t *out, size_t room);
 
-/* Loads a frame, makes as many of its m steps as the budget allows, and writes its trace. count: the trace's
- * bytes. Refused by 1 to 9, 23. A budget of 0 is not refused by 22: the trace after 0 steps, of 4 bytes, is
- * written. */
+/* Loads a frame, makes as many of its m + s steps as the budget allows, and writes its trace. count: the
+ * trace's bytes. Refused by 1 to 8, 15, 23. A budget of 0 is not refused by 22: the trace after 0 steps, of 4
+ * bytes, is written. */
 uint64_t em_write_trace(const uint8_t *frame, size_t length, uint64_t budget, uint8_t *out, size_t room);
 
 /* Reads a trace into words: kind, code, p, f, n, m and k, then the digits step by step and in a step row by
- * row. count: the words, 7 + n * k. Refused by 1 to 5, 10, 6, 7, 11, 23. */
+ * row. A trace does not tell s; em_check_frame gives it for the job's frame. count: the words, 7 + n * k.
+ * Refused by 1 to 5, 10, 6, 7, 11, 23. */
 uint64_t em_read_trace(const uint8_t *trace, size_t length, int64_t *words, size_t room);
 
 #ifdef __cplusplus

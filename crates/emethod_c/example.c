@@ -1,22 +1,25 @@
-/* The polynomial 3/16 + 8/16 x at x = 4/16: packed, evaluated in 4 steps of radix 2, its readings printed.
- * They are `5 8`: row 1 is the value, 5 / 2^4 = 5/16. */
+/* The polynomial 9/16 + 8/16 x at x = 4/16: packed, evaluated in all steps of radix 2, its values printed.
+ * 9/16 is above 1/2, so the scale is 1, and there are m + 1 = 5 steps. The readings are 11 and 8, the values
+ * `0.6875 0.5`: row 1 is the polynomial's, 11 / 2^5 * 2^1 = 11/16. */
 #include <stdio.h>
 
 #include "emethod.h"
 
 int main(void)
 {
-    const int64_t numbers[] = {4, 3, 8}; /* x, p_0 and p_1 over 2^f = 16 */
+    const int64_t numbers[] = {4, 9, 8}; /* x, p_0 and p_1 over 2^f = 16 */
     uint8_t frame[EM_FRAME_BYTES];
     int64_t readings[EM_READINGS];
     uint64_t packed, done;
+    double unit;
 
     packed = em_write_frame(EM_POLYNOMIAL, 0, 1, 4, 2, 4, numbers, 3, frame, EM_FRAME_BYTES);
-    done = em_evaluate(frame, EM_COUNT(packed), 4, readings, EM_READINGS);
+    done = em_evaluate(frame, EM_COUNT(packed), 60, readings, EM_READINGS); /* 60: no job has more steps */
     if (EM_REFUSAL(packed) != EM_ACCEPTED || EM_REFUSAL(done) != EM_ACCEPTED) {
         fprintf(stderr, "refused: %u, %u\n", EM_REFUSAL(packed), EM_REFUSAL(done));
         return 1;
     }
-    printf("%lld %lld\n", (long long)readings[0], (long long)readings[1]);
+    unit = 1.0 / (double)(1LL << EM_COUNT(done)) * (double)(1LL << EM_SCALE(done)); /* 1 / r^k * r^s */
+    printf("%g %g\n", (double)readings[0] * unit, (double)readings[1] * unit);
     return 0;
 }

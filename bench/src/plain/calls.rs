@@ -1,22 +1,31 @@
-//! The calls of emethod.h and of the crate bench_c on the plain side, each put together from document 01's.
+//! The calls of emethod.h and of the crate bench_c on the plain side, each put together from the documents'.
 
 use std::hint::black_box;
 
 use super::{read_trace, read_trace_by_eights, write_trace, Fields, Record, Refusal, State};
 
-/// Loads a frame and lets it go. Gives how many numbers it holds.
-pub fn check_frame(frame: &[u8]) -> Result<usize, Refusal> {
+/// A count, and the scale that the frame has.
+pub struct Scaled {
+    pub count: usize,
+    pub scale: usize,
+}
+
+/// Loads a frame and lets it go. Counts the numbers that it holds.
+pub fn check_frame(frame: &[u8]) -> Result<Scaled, Refusal> {
     match State::load(frame)? {
-        State::Job(job) => Ok(job.fields.count()),
+        State::Job(job) => Ok(Scaled {
+            count: job.fields.count(),
+            scale: job.scale,
+        }),
         State::Idle => Err(Refusal::Idle),
     }
 }
 
-/// Loads a frame, makes steps and gives the readings. Gives the steps made.
-pub fn evaluate(frame: &[u8], budget: u64, readings: &mut [i64]) -> Result<usize, Refusal> {
-    let (state, steps) = load_and_advance(frame, budget)?;
-    state.readings(readings)?;
-    Ok(steps)
+/// Loads a frame, makes steps and gives the readings. Counts the steps.
+pub fn evaluate(frame: &[u8], budget: u64, readings: &mut [i64]) -> Result<Scaled, Refusal> {
+    let (state, count) = load_and_advance(frame, budget)?;
+    let scale = state.readings(readings)?;
+    Ok(Scaled { count, scale })
 }
 
 /// Loads a frame, makes steps and writes the trace. Gives its bytes.

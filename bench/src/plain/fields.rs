@@ -66,7 +66,7 @@ impl Fields {
         if self.f < 4 || self.f > 40 {
             return Err(Refusal::FractionBits);
         }
-        if self.m < 1 || self.m > 60 / self.radix_bits() {
+        if self.m < 1 || self.m > self.most_steps() {
             return Err(Refusal::Steps);
         }
         Ok(())
@@ -82,9 +82,32 @@ impl Fields {
         1 << self.radix_bits()
     }
 
-    /// What stands for 1: 2^f.
+    /// What stands for 1 in a frame's numbers: 2^f.
     pub fn unit(&self) -> i64 {
         1 << self.f
+    }
+
+    /// The fraction bits of the residuals in a job of this scale: with them 2^f × r^scale stands for 1.
+    pub fn inner_bits(&self, scale: usize) -> usize {
+        self.f + scale * self.radix_bits()
+    }
+
+    /// The largest scale that numbers of f + 2 bits can ask for.
+    pub fn most_scale(&self) -> usize {
+        match self.code {
+            0 => 2,
+            _ => 1,
+        }
+    }
+
+    /// The most steps whose digits 60 bits hold.
+    pub fn most_steps(&self) -> usize {
+        60 / self.radix_bits()
+    }
+
+    /// The most steps that a trace may hold. It does not tell the scale of its job, which is at most 2.
+    pub fn trace_steps(&self) -> usize {
+        self.most_steps().min(self.m + 2)
     }
 
     /// The bits of each number.
@@ -113,10 +136,5 @@ impl Fields {
     pub fn largest_weight(&self) -> i64 {
         let (r, p) = (self.radix(), self.p as i64);
         self.unit() * (2 * p - (r - 1)) / (2 * r * p)
-    }
-
-    /// The largest |B| with 2 × |B| at most 2^f, and the largest |z|.
-    pub fn half(&self) -> i64 {
-        self.unit() / 2
     }
 }

@@ -8,6 +8,8 @@ use super::Refusal;
 pub struct System {
     pub g: Vec<i64>,
     pub b: Vec<i64>,
+    /// The smallest s, 0 or more, for which 2 × |B| is at most 2^f × r^s in every row.
+    pub scale: usize,
 }
 
 impl System {
@@ -15,7 +17,7 @@ impl System {
     fn new(fields: &Fields, numbers: &[i64]) -> System {
         let n = fields.n;
         let mut g = vec![0; n * n];
-        match fields.kind {
+        let b = match fields.kind {
             POLYNOMIAL | RATIONAL => {
                 let x = numbers[0];
                 let (b, q) = numbers[1..].split_at(n);
@@ -26,7 +28,7 @@ impl System {
                 for (row, q) in (1..n).zip(q) {
                     g[row * n] = -q;
                 }
-                System { g, b: b.to_vec() }
+                b.to_vec()
             }
             _ => {
                 let mut b = Vec::with_capacity(n);
@@ -38,24 +40,35 @@ impl System {
                     to[i] += fields.unit();
                     b.push(from[n]);
                 }
-                System { g, b }
+                b
             }
-        }
+        };
+        let scale = smallest_scale(fields, &b);
+        System { g, b, scale }
     }
 
-    /// 8 before 9: all weights are looked at before any right side.
+    /// 8 before 15: all rows are weighed before the scale counts.
     fn check(&self, fields: &Fields) -> Result<(), Refusal> {
         let largest = fields.largest_weight();
         let mut rows = self.g.chunks_exact(fields.n);
         if let Some(row) = rows.position(|row| weight(row) > largest) {
             return Err(Refusal::HeavyRow(row + 1));
         }
-        let half = fields.half();
-        if let Some(row) = self.b.iter().position(|b| b.abs() > half) {
-            return Err(Refusal::LargeSide(row + 1));
+        if fields.m + self.scale > fields.most_steps() {
+            return Err(Refusal::ScaledSteps);
         }
         Ok(())
     }
+}
+
+/// The scale of these right sides. None is above 2 in absolute value, so it is 2 or less.
+fn smallest_scale(fields: &Fields, b: &[i64]) -> usize {
+    let largest = b.iter().map(|b| b.abs()).max().unwrap_or(0);
+    let mut scale = 0;
+    while 2 * largest > 1 << fields.inner_bits(scale) {
+        scale += 1;
+    }
+    scale
 }
 
 /// The weight of a row whose entries come from a frame: 16 of at most 43 bits.
@@ -83,7 +96,7 @@ pub fn parse(frame: &[u8]) -> Result<(Fields, Vec<i64>, System), Refusal> {
     Ok((fields, numbers, system))
 }
 
-/// Gives a frame's fields and puts its numbers as sent into the list. Refused by 1 to 9, 23.
+/// Gives a frame's fields and puts its numbers as sent into the list. Refused by 1 to 8, 15, 23.
 pub fn read_frame(frame: &[u8], list: &mut [i64]) -> Result<Fields, Refusal> {
     let (fields, numbers, _) = parse(frame)?;
     let list = list.get_mut(..numbers.len()).ok_or(Refusal::NoRoom)?;
@@ -91,7 +104,7 @@ pub fn read_frame(frame: &[u8], list: &mut [i64]) -> Result<Fields, Refusal> {
     Ok(fields)
 }
 
-/// Writes a frame and gives its bytes. Refused by 2, 14, 3, 4, 5, 12, 13, 8, 9, 23.
+/// Writes a frame and gives its bytes. Refused by 2, 14, 3, 4, 5, 12, 13, 8, 15, 23.
 pub fn write_frame(fields: &Fields, numbers: &[i64], out: &mut [u8]) -> Result<usize, Refusal> {
     fields.check()?;
     if numbers.len() != fields.count() {

@@ -1,4 +1,5 @@
-//! Document 01 in plain Rust: what a programmer writes who has the document and no proofs.
+//! Document 01, with request 1 of document 02, in plain Rust: what a programmer writes who has the documents
+//! and no proofs.
 //!
 //! It shares nothing with the proved library, so that an error would have to be made twice to stay unseen.
 
@@ -25,12 +26,12 @@ pub enum Refusal {
     Length,
     Filling,
     HeavyRow(usize),
-    LargeSide(usize),
     StepsMade,
     Digit,
     Count,
     Number,
     Order,
+    ScaledSteps,
     Idle,
     AllStepsMade,
     NoBudget,
@@ -39,7 +40,7 @@ pub enum Refusal {
 }
 
 impl Refusal {
-    /// The number that document 01 gives the reason.
+    /// The number that the documents give the reason.
     pub fn number(self) -> u64 {
         match self {
             Refusal::TooFewBytes => 1,
@@ -50,12 +51,12 @@ impl Refusal {
             Refusal::Length => 6,
             Refusal::Filling => 7,
             Refusal::HeavyRow(_) => 8,
-            Refusal::LargeSide(_) => 9,
             Refusal::StepsMade => 10,
             Refusal::Digit => 11,
             Refusal::Count => 12,
             Refusal::Number => 13,
             Refusal::Order => 14,
+            Refusal::ScaledSteps => 15,
             Refusal::Idle => 20,
             Refusal::AllStepsMade => 21,
             Refusal::NoBudget => 22,
@@ -64,10 +65,10 @@ impl Refusal {
         }
     }
 
-    /// The row given with it, 0 with every reason but two.
+    /// The row given with it, 0 with every reason but one.
     pub fn row(self) -> u64 {
         match self {
-            Refusal::HeavyRow(row) | Refusal::LargeSide(row) => row as u64,
+            Refusal::HeavyRow(row) => row as u64,
             _ => 0,
         }
     }

@@ -3,7 +3,7 @@
 use std::mem::swap;
 
 use super::fields::{Fields, MAX_ORDER};
-use super::frame::parse;
+use super::frame::{parse, System};
 use super::trace::Record;
 use super::Refusal;
 
@@ -14,27 +14,30 @@ pub enum State {
     Job(Job),
 }
 
-/// A job with its steps made. The numbers are whole numbers over 2^f.
+/// A job with its steps made. It runs on the right sides divided by r^scale.
 #[derive(Clone, Debug, PartialEq, Eq)]
 pub struct Job {
     pub fields: Fields,
-    /// G row by row, n × n entries.
+    pub scale: usize,
+    /// G row by row, n × n whole numbers over 2^f.
     pub g: Vec<i64>,
-    /// What is left in each row.
+    /// What is left in each row, whole numbers over 2^f × r^scale.
     pub z: Vec<i64>,
     /// The digits of the steps made, step by step and in a step row by row: k × n of them.
     pub digits: Vec<i8>,
 }
 
 impl State {
-    /// A new state with 0 steps made. Refused by 1 to 9; the state is then `State::default()`.
+    /// A new state with 0 steps made. Refused by 1 to 8, 15; the state is then `State::default()`.
     pub fn load(frame: &[u8]) -> Result<State, Refusal> {
-        let (fields, _, system) = parse(frame)?;
+        let (fields, _, System { g, b, scale }) = parse(frame)?;
         Ok(State::Job(Job {
-            digits: Vec::with_capacity(fields.m * fields.n),
-            g: system.g,
-            z: system.b,
+            digits: Vec::with_capacity((fields.m + scale) * fields.n),
             fields,
+            scale,
+            g,
+            // b over 2^f, divided by r^scale, is the same numbers over 2^f × r^scale.
+            z: b,
         }))
     }
 
@@ -47,7 +50,7 @@ impl State {
         if budget == 0 {
             return Err(Refusal::NoBudget);
         }
-        let left = job.fields.m - job.steps_made();
+        let left = job.last_step() - job.steps_made();
         if left == 0 {
             return Err(Refusal::AllStepsMade);
         }
@@ -56,7 +59,8 @@ impl State {
         Ok(steps)
     }
 
-    /// Puts a reading for each row into the list and gives their number. Refused by 20, 24, 23.
+    /// Puts a reading for each row into the list and gives the scale: a reading divided by r^k and multiplied
+    /// by r^scale stands for its row's value. Refused by 20, 24, 23.
     pub fn readings(&self, list: &mut [i64]) -> Result<usize, Refusal> {
         let job = self.job()?;
         let n = job.fields.n;
@@ -67,7 +71,7 @@ impl State {
                 *reading = (*reading << job.fields.radix_bits()) + i64::from(digit);
             }
         }
-        Ok(n)
+        Ok(job.scale)
     }
 
     /// What a trace tells of the state. Refused by 20, 24.
@@ -96,23 +100,35 @@ impl Job {
         self.digits.len() / self.fields.n
     }
 
+    fn last_step(&self) -> usize {
+        self.fields.m + self.scale
+    }
+
+    /// The fraction bits of the residuals.
+    fn bits(&self) -> usize {
+        self.fields.inner_bits(self.scale)
+    }
+
     /// The limits of refusal 24. A digit past the k-th step has no place here.
     fn keeps_limits(&self) -> bool {
-        let Fields { n, m, p, .. } = self.fields;
-        if self.fields.check().is_err() {
+        let Fields { n, p, .. } = self.fields;
+        if self.fields.check().is_err()
+            || self.scale > self.fields.most_scale()
+            || self.last_step() > self.fields.most_steps()
+        {
             return false;
         }
         let sizes = self.g.len() == n * n
             && self.z.len() == n
             && self.digits.len() == self.steps_made() * n
-            && self.steps_made() <= m;
+            && self.steps_made() <= self.last_step();
         let largest = self.fields.largest_weight() as u128;
         let light = |row: &[i64]| {
             // Any numbers may stand here, so the sum is a wide one.
             let weight: u128 = row.iter().map(|g| u128::from(g.unsigned_abs())).sum();
             weight <= largest
         };
-        let half = self.fields.half().unsigned_abs();
+        let half = 1 << (self.bits() - 1);
         let digit = self.digits.iter().map(|d| d.unsigned_abs()).max();
         sizes
             && self.g.chunks_exact(n).all(light)
@@ -123,6 +139,9 @@ impl Job {
     fn make_steps(&mut self, steps: usize) {
         let n = self.fields.n;
         let r = self.fields.radix();
+        // What a sum over 2^f is multiplied by to be one over 2^f × r^scale.
+        let factor = r.pow(self.scale as u32);
+        let bits = self.bits();
         // The digits of the step before and those being chosen.
         let mut before = &mut [0i8; MAX_ORDER];
         let mut chosen = &mut [0i8; MAX_ORDER];
@@ -133,9 +152,9 @@ impl Job {
             let rows = self.g.chunks_exact(n).zip(&mut self.z).zip(&mut *chosen);
             for ((row, z), digit) in rows {
                 let products = row.iter().zip(&*before).map(|(g, &d)| g * i64::from(d));
-                let w = r * (*z + products.sum::<i64>());
-                let nearest = choose(w, &self.fields);
-                *z = w - nearest * self.fields.unit();
+                let w = r * (*z + factor * products.sum::<i64>());
+                let nearest = choose(w, self.fields.p as i64, bits);
+                *z = w - (nearest << bits);
                 *digit = nearest as i8;
             }
             self.digits.extend_from_slice(&chosen[..n]);
@@ -144,24 +163,26 @@ impl Job {
     }
 }
 
-/// The digit for w: up to p the nearest whole number, a tie going away from zero, and above p cut.
-fn choose(w: i64, fields: &Fields) -> i64 {
+/// The digit for w, which has so many fraction bits: up to p the nearest whole number, a tie going away from
+/// zero, and above p cut.
+fn choose(w: i64, p: i64, bits: usize) -> i64 {
     let size = w.abs();
-    let top = fields.p as i64 * fields.unit();
-    let rounding = if size <= top { fields.half() } else { 0 };
-    w.signum() * ((size + rounding) >> fields.f)
+    let half = 1 << (bits - 1);
+    let rounding = if size <= p << bits { half } else { 0 };
+    w.signum() * ((size + rounding) >> bits)
 }
 
 #[cfg(test)]
 mod tests {
     use super::*;
 
-    /// Case A of document 01, and case C.
+    /// Case A of document 01, and cases C and E.
     const A: [u8; 6] = [0x01, 0x10, 0x44, 0x10, 0x32, 0x00];
     const C: [u8; 5] = [0x81, 0x10, 0x04, 0x30, 0x80];
+    const E: [u8; 6] = [0x01, 0x10, 0x44, 0x10, 0x92, 0x00];
 
-    fn case_a() -> Job {
-        match State::load(&A) {
+    fn loaded(frame: &[u8]) -> Job {
+        match State::load(frame) {
             Ok(State::Job(job)) => job,
             other => panic!("{other:?}"),
         }
@@ -179,7 +200,7 @@ mod tests {
     fn budgets_in_a_row() {
         let mut state = State::load(&A).unwrap();
         let mut list = [7; 3];
-        assert_eq!(state.readings(&mut list), Ok(2));
+        assert_eq!(state.readings(&mut list), Ok(0));
         assert_eq!(list, [0, 0, 7]);
         assert_eq!(state.advance(0), Err(Refusal::NoBudget));
         assert_eq!(state.advance(3), Ok(3));
@@ -188,8 +209,23 @@ mod tests {
         assert_eq!(state.advance(0), Err(Refusal::NoBudget));
         assert_eq!(state.readings(&mut list[..1]), Err(Refusal::NoRoom));
         assert_eq!(list, [0, 0, 7]);
-        assert_eq!(state.readings(&mut list), Ok(2));
+        assert_eq!(state.readings(&mut list), Ok(0));
         assert_eq!(list, [5, 8, 7]);
+    }
+
+    #[test]
+    fn a_high_start() {
+        let mut state = State::load(&E).unwrap();
+        let mut list = [7; 3];
+        assert_eq!(state.job().unwrap().z, [9, 8]);
+        assert_eq!(state.advance(4), Ok(4));
+        assert_eq!(state.advance(4), Ok(1));
+        assert_eq!(state.advance(4), Err(Refusal::AllStepsMade));
+        // 11 / 2^5 × 2^1 is 11/16, the value itself.
+        assert_eq!(state.readings(&mut list), Ok(1));
+        assert_eq!(list, [11, 8, 7]);
+        let record = state.record().unwrap();
+        assert_eq!((record.fields.m, record.k), (4, 5));
     }
 
     #[test]
@@ -204,22 +240,26 @@ mod tests {
     #[test]
     fn broken_limits() {
         type Break = fn(&mut Job);
-        let breaks: [Break; 12] = [
+        let breaks: [Break; 16] = [
             |job| job.fields.kind = 3,
             |job| job.fields.code = 4,
             |job| job.fields.p = 2,
             |job| job.fields.f = 3,
             |job| job.fields.n = 0,
             |job| job.fields.m = 61,
+            |job| job.scale = 3,
+            |job| job.scale = usize::MAX,
+            |job| (job.fields.m, job.scale) = (60, 1),
             |job| job.digits = vec![0; 10],
             |job| job.g[1] = 5,
             |job| job.g[1] = i64::MIN,
             |job| job.g.fill(i64::MAX),
             |job| job.z[1] = -9,
+            |job| (job.z[1], job.scale) = (-17, 1),
             |job| job.digits = vec![0, -2],
         ];
         for (at, spoil) in breaks.iter().enumerate() {
-            let mut job = case_a();
+            let mut job = loaded(&A);
             spoil(&mut job);
             let mut state = State::Job(job);
             let before = state.clone();
@@ -228,5 +268,26 @@ mod tests {
             assert_eq!(state.record(), Err(Refusal::BadState));
             assert_eq!(state, before);
         }
+    }
+
+    #[test]
+    fn limits_of_the_scale() {
+        let passes = |spoil: fn(&mut Job)| {
+            let mut job = loaded(&A);
+            spoil(&mut job);
+            State::Job(job).job().is_ok()
+        };
+        assert!(passes(|job| (job.z[1], job.scale) = (-16, 1)));
+        assert!(passes(|job| (job.z[1], job.scale) = (32, 2)));
+        assert!(passes(|job| (job.fields.m, job.scale) = (58, 2)));
+        assert!(passes(|job| (job.digits, job.scale) = (vec![0; 12], 2)));
+        assert!(!passes(|job| (job.digits, job.scale) = (vec![0; 14], 2)));
+        // In radix 4, with p 2 and rows of weight 0.
+        fn in_radix_4(job: &mut Job, scale: usize) {
+            (job.fields.code, job.fields.p, job.scale) = (1, 2, scale);
+            job.g.fill(0);
+        }
+        assert!(passes(|job| in_radix_4(job, 1)));
+        assert!(!passes(|job| in_radix_4(job, 2)));
     }
 }

@@ -52,7 +52,7 @@ fn read_with(
     let fields = Fields::read(&mut BitReader::new(trace))?;
     let mut rest = BitReader::new(&trace[HEADER_BYTES..]);
     let k = rest.unsigned(6) as usize;
-    if k > fields.m {
+    if k > fields.trace_steps() {
         return Err(Refusal::StepsMade);
     }
     if trace.len() != fields.trace_bytes(k) {
@@ -71,7 +71,7 @@ fn read_with(
 /// Writes a trace and gives its bytes. Refused by 2, 14, 3, 4, 5, 10, 11, 23.
 pub fn write_trace(record: &Record, out: &mut [u8]) -> Result<usize, Refusal> {
     record.fields.check()?;
-    if record.k > record.fields.m {
+    if record.k > record.fields.trace_steps() {
         return Err(Refusal::StepsMade);
     }
     let digits = &record.digits[..record.k * record.fields.n];
@@ -114,7 +114,7 @@ mod tests {
         assert_eq!(write_trace(&record, &mut lent), Err(Refusal::NoRoom));
         record.digits[1] = -2;
         assert_eq!(write_trace(&record, &mut lent), Err(Refusal::Digit));
-        record.k = 5;
+        record.k = 7;
         assert_eq!(write_trace(&record, &mut lent), Err(Refusal::StepsMade));
         record.fields.m = 0;
         assert_eq!(write_trace(&record, &mut lent), Err(Refusal::Steps));
@@ -133,5 +133,24 @@ mod tests {
         assert_eq!(lent[5], 7);
         assert_eq!(read_trace(&lent[..5]), Ok(good.clone()));
         assert_eq!(read_trace_by_eights(&lent[..5]), Ok(good));
+    }
+
+    #[test]
+    fn steps_of_a_trace() {
+        let most = |code: usize, m| {
+            let fields = Fields {
+                kind: 0,
+                code,
+                p: 1 << code,
+                f: 4,
+                n: 1,
+                m,
+            };
+            fields.trace_steps()
+        };
+        // m + 2, and no more than 60 / log2(r).
+        assert_eq!([4, 58, 59, 60].map(|m| most(0, m)), [6, 60, 60, 60]);
+        assert_eq!([1, 27, 28, 29].map(|m| most(1, m)), [3, 29, 30, 30]);
+        assert_eq!([12, 13, 14, 15].map(|m| most(3, m)), [14, 15, 15, 15]);
     }
 }

@@ -16,6 +16,7 @@ use Rattle.stepping.specs.Steps.{stepped-digits, stepped-residuals, steps, one-
 use Rattle.recurrence.specs.Recurrence.{shifted, next-digit, next-residual, digit, residual, reading, select, digit-size}
 use Rattle.state.specs.State.{beyond, fresh, breaks-limit}
 use Rattle.evaluator.specs.Evaluator.{loaded, advanced, advance-checks, steps-made, readings-checks, readings-refusal, readings-list}
+use Rattle.scale.specs.Scale.{every}
 use Rattle.accuracy.specs.Accuracy as calls
 use Rattle.accuracy.specs.Accuracy.{Call, advance, readings, ExactValues, G, b, after, true-digit}
 use Rattle.evaluator.proofs.ExamplePastOrder.{frame-A}
@@ -55,13 +56,13 @@ mixed-A = advance 2 ∷ readings [] ∷ advance 0 ∷ readings lent-A ∷ advanc
 -- ---- what the definitions give
 
 pub accepted-A : frame-refusal frame-A ≡ 0
-unfolding frame-A frame-checks field number bits values-from decode curve-entry matrix right-side first-row-from weight total
+unfolding frame-A frame-checks field number bits values-from decode curve-entry matrix right-side first-row-from every weight total
 accepted-A = refl
 
 -- the digits of row 1 and of row 2, step by step
 pub digits-A : (map (λ j. true-digit frame-A j 0) (1 ∷ 2 ∷ 3 ∷ 4 ∷ []) ≡ pos 0 ∷ pos 1 ∷ pos 1 ∷ negsuc 0 ∷ [])
     × (map (λ j. true-digit frame-A j 1) (1 ∷ 2 ∷ 3 ∷ 4 ∷ []) ≡ pos 1 ∷ pos 0 ∷ pos 0 ∷ pos 0 ∷ [])
-unfolding frame-A field number bits values-from decode curve-entry matrix right-side dot sum shifted next-digit next-residual digit residual select digit-size
+unfolding frame-A field number bits values-from decode curve-entry matrix right-side dot sum shifted next-digit next-residual digit residual select digit-size every
 digits-A = (refl, refl)
 
 -- the t-th of them, from 0
@@ -76,7 +77,7 @@ unfoldable pub values-A : ℕ → ℤ
 values-A = at (pos 5 ∷ pos 8 ∷ [])
 
 pub exact-A : ExactValues frame-A values-A 16
-unfolding frame-A values-A field number bits values-from decode curve-entry matrix right-side dot sum
+unfolding frame-A values-A field number bits values-from decode curve-entry matrix right-side dot sum every
 exact-A = record { solves = solves-row }
   where
     solves-row : (i : ℕ) → i < 2 → pos 16 *ℤ values-A i -ℤ dot 2 (G frame-A i) values-A ≡ pos 16 *ℤ b frame-A i
@@ -85,7 +86,7 @@ exact-A = record { solves = solves-row }
     solves-row (suc (suc i)) l = absurd (omega arith)
 
 -- the calls themselves: readings to no word and to one word are refused by 23, those to three words are not;
--- at the end four steps are made, and readings leave 5, 8 and the third word
+-- at the end four steps are made, readings leave 5, 8 and the third word, and the scale is 0
 pub readings-A : (x y w : ℤ) →
     (readings-refusal (after frame-A two-steps-A) 0 ≡ 23)
     × (readings-refusal (after frame-A middle-A) 3 ≡ 0)
@@ -93,5 +94,6 @@ pub readings-A : (x y w : ℤ) →
     × (readings-refusal (after frame-A calls-A) 3 ≡ 0)
     × (after frame-A calls-A .k ≡ 4)
     × (readings-list (after frame-A calls-A) (x ∷ y ∷ w ∷ []) ≡ pos 5 ∷ pos 8 ∷ w ∷ [])
-unfolding frame-A calls-A two-steps-A middle-A end-A calls.run loaded advanced advance-checks steps-made steps one-step readings-checks readings-list fresh breaks-limit beyond frame-checks field number bits values-from decode curve-entry matrix right-side first-row-from weight total dot sum list-from stores stepped-digits stepped-residuals shifted next-digit next-residual select digit-size reading
-readings-A x y w = (refl, refl, refl, refl, refl, refl)
+    × (after frame-A calls-A .scale ≡ 0)
+unfolding frame-A calls-A two-steps-A middle-A end-A calls.run loaded advanced advance-checks steps-made steps one-step readings-checks readings-list fresh breaks-limit beyond frame-checks field number bits values-from decode curve-entry matrix right-side first-row-from every weight total dot sum list-from stores stepped-digits stepped-residuals shifted next-digit next-residual select digit-size reading
+readings-A x y w = (refl, refl, refl, refl, refl, refl, refl)

@@ -6,8 +6,11 @@ use Prim.Native.Nat.{ℕ, _<_, _≤_}
 use native.Mathlib.Omega.{arith}
 use lib.IntN.{ℤ, pos, negsuc}
 use Rattle.integers.specs.Flat.{at}
-use Rattle.bitfields.specs.Layout.{field, number, bits}
+use Rattle.bitfields.specs.Layout.{field, number, bits, values-from}
 use Rattle.recurrence.specs.Recurrence.{reading}
+use Rattle.bitfields.specs.Twos.{decode}
+use Rattle.system.specs.System.{right-side}
+use Rattle.scale.specs.Scale.{every}
 use Rattle.accuracy.specs.Accuracy.{Call, budgets, Accurate, after, held-digit, true-digit, Y}
 use Rattle.evaluator.proofs.ExamplePastOrder.{frame-A}
 use Rattle.accuracy.proofs.ExampleA.{calls-A, one-step-A, two-steps-A, digits-A}
@@ -15,17 +18,17 @@ use Rattle.accuracy.proofs.ExampleA.{calls-A, one-step-A, two-steps-A, 
 module _ (holds : (calls : List Call) → Accurate frame-A calls) where
   -- the budgets 1, 0 and 9 make four steps, since the fourth is the last
   pub steps-A : after frame-A calls-A .k ≡ 4
-  unfolding frame-A calls-A budgets field number bits
+  unfolding frame-A calls-A budgets field number bits values-from decode right-side every
   steps-A = omega (arith, holds calls-A .steps-made)
 
   -- a budget of 1 makes one step
   pub steps-one : after frame-A one-step-A .k ≡ 1
-  unfolding frame-A one-step-A budgets field number bits
+  unfolding frame-A one-step-A budgets field number bits values-from decode right-side every
   steps-one = omega (arith, holds one-step-A .steps-made)
 
   -- and one of 2 makes two
   pub steps-two : after frame-A two-steps-A .k ≡ 2
-  unfolding frame-A two-steps-A budgets field number bits
+  unfolding frame-A two-steps-A budgets field number bits values-from decode right-side every
   steps-two = omega (arith, holds two-steps-A .steps-made)
 
   -- in the steps made the digits are those of the steps on the frame's numbers

@@ -10,6 +10,7 @@ use Rattle.bitfields.specs.Layout.{field, number, bits, values-from}
 use Rattle.bitfields.specs.Twos.{decode}
 use Rattle.system.specs.System.{curve-entry, matrix, right-side}
 use Rattle.recurrence.specs.Recurrence.{reading}
+use Rattle.scale.specs.Scale.{every}
 use Rattle.accuracy.specs.Accuracy.{Call, Accurate, after, held-digit, true-digit}
 use Rattle.evaluator.proofs.ExamplePastOrder.{frame-A}
 use Rattle.accuracy.proofs.ExampleA.{one-step-A, two-steps-A, digit-1-A, digit-2-A}
@@ -18,7 +19,7 @@ use Rattle.accuracy.proofs.ExampleDigits.{steps-one, steps-two, held-A}
 module _ (holds : (calls : List Call) → Accurate frame-A calls) where
   -- after one step the digits and the readings are 0 and 1: 2 × 3 - (16 × 0 - 4 × 1) = z + 4 × 1
   pub identity-one : pos 10 ≡ at (after frame-A one-step-A .z) 0 +ℤ pos 4
-  unfolding frame-A field number bits values-from decode curve-entry matrix right-side dot sum reading
+  unfolding frame-A field number bits values-from decode curve-entry matrix right-side dot sum reading every
   identity-one = rw (steps-one holds, held 0 (omega arith), held 1 (omega arith), digit-1-A 0, digit-2-A 0) at (holds one-step-A .identity 0 (omega arith))
     where
       held : (i : ℕ) → i < 2 → held-digit frame-A one-step-A 1 i ≡ true-digit frame-A 1 i
@@ -26,7 +27,7 @@ module _ (holds : (calls : List Call) → Accurate frame-A calls) where
 
   -- after two steps the digits are 1 and 0 and the readings 1 and 2: 4 × 3 - (16 × 1 - 4 × 2) = z + 4 × 0
   pub identity-two : pos 4 ≡ at (after frame-A two-steps-A .z) 0 +ℤ pos 0
-  unfolding frame-A field number bits values-from decode curve-entry matrix right-side dot sum reading
+  unfolding frame-A field number bits values-from decode curve-entry matrix right-side dot sum reading every
   identity-two =
       rw (
         steps-two holds,

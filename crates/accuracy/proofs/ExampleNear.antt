@@ -11,6 +11,8 @@ use Rattle.integers.specs.Sum.{sum}
 use Rattle.bitfields.specs.Layout.{field, number, bits, values-from}
 use Rattle.bitfields.specs.Twos.{decode}
 use Rattle.curve.specs.Curve.{numerator-value, denominator-value, has-value}
+use Rattle.system.specs.System.{right-side}
+use Rattle.scale.specs.Scale.{every}
 use Rattle.accuracy.specs.Accuracy.{Call, Accurate, ExactValues, kind, Y}
 use Rattle.evaluator.proofs.ExamplePastOrder.{frame-A}
 use Rattle.accuracy.proofs.ExampleA.{calls-A, values-A, exact-A}
@@ -22,14 +24,15 @@ unfolding frame-A field number bits
 polynomial-A = refl
 
 module _ (holds : (calls : List Call) → Accurate frame-A calls) where
-  -- row 1's value is 5/16, and the first two of its four digits spell a Y with |5 × 4 - 16 × Y| ≤ 16
-  pub near-A : natAbs (pos 5 *ℤ pos 4 -ℤ pos 16 *ℤ Y frame-A calls-A 2 0) ≤ 16
-  unfolding frame-A values-A field number bits
+  -- row 1's value is 5/16, and the first two of its four digits spell a Y with |5 × 4 - 16 × Y| ≤ 16: the
+  -- scale is 0, and r^s is 1
+  pub near-A : natAbs (pos 5 *ℤ pos 4 -ℤ pos 16 *ℤ Y frame-A calls-A 2 0 *ℤ pos 1) ≤ 16
+  unfolding frame-A values-A field number bits values-from decode right-side every
   near-A =
       omega (arith, holds calls-A .near 2 (omega (arith, steps-A holds)) values-A 16 (omega (arith, steps-A holds)) exact-A 0 (omega arith))
 
   -- this Y is 1: |5 × 4 - 16 × 1| ≤ 16
-  pub distance-A : natAbs (pos 5 *ℤ pos 4 -ℤ pos 16 *ℤ pos 1) ≤ 16
+  pub distance-A : natAbs (pos 5 *ℤ pos 4 -ℤ pos 16 *ℤ pos 1 *ℤ pos 1) ≤ 16
   distance-A = rw (spelt-A holds .0) at near-A
 
   -- row 1's exact value is 80/256, in every solution
@@ -44,7 +47,7 @@ module _ (holds : (calls : List Call) → Accurate frame-A calls) where
 
   -- and there is such a solution: one with a D above 0, in which 256 N is 80 D
   abbrev found-A : ℕ
-  found-A = holds calls-A .curve polynomial-A .scale
+  found-A = holds calls-A .curve polynomial-A .solution-under
 
   pub some-A : (0 < found-A) × (pos 256 *ℤ holds calls-A .curve polynomial-A .solution 0 ≡ pos 80 *ℤ pos found-A)
-  some-A = (holds calls-A .curve polynomial-A .scale-positive, curve-A (holds calls-A .curve polynomial-A .solution) found-A (holds calls-A .curve polynomial-A .solved))
+  some-A = (holds calls-A .curve polynomial-A .under-positive, curve-A (holds calls-A .curve polynomial-A .solution) found-A (holds calls-A .curve polynomial-A .solved))

@@ -1,6 +1,6 @@
 -- `Performed` at work on document 01's cases A and D: from the promise alone, the very numbers that `perform`
 -- answers and leaves in the list.
-use mathlib.Core.Path.{_≡_, refl, sym, ap, _∙_}
+use mathlib.Core.Path.{_≡_, refl, sym, ap, ap₂, _∙_}
 use mathlib.Core.List.{List, [], _∷_, _++_}
 use Prim.Native.Nat.{ℕ, _+_, _<_, _≤_}
 use native.Mathlib.Omega.{arith}
@@ -17,6 +17,7 @@ use Rattle.stepping.specs.Steps.{stepped-digits, stepped-residuals, steps, one-
 use Rattle.recurrence.specs.Recurrence.{digit, residual, shifted, next-digit, next-residual, reading, select, digit-size}
 use Rattle.state.specs.State.{beyond, fresh, breaks-limit}
 use Rattle.evaluator.specs.Evaluator.{loaded, advanced, advance-checks, steps-made, readings-checks, readings-list}
+use Rattle.scale.specs.Scale.{every}
 use Rattle.accuracy.specs.Accuracy as calls
 use Rattle.accuracy.specs.Accuracy.{Call, advance, readings, budgets}
 use Rattle.accuracy.specs.Perform.{room-of, calls-of, room-of-all, parts-after, Untouched, Performed}
@@ -60,17 +61,19 @@ module _ (r : Evaluated) (final : List ℤ) (p : Performed frame-A words-A given
   -- after two steps the rows read 1 and 2, after four 5 and 8; the third word of the part of three is as it
   -- was, and so is the word past the parts
   list-A : final ≡ pos 1 ∷ pos 2 ∷ pos 72 ∷ pos 5 ∷ pos 8 ∷ pos 75 ∷ []
-  unfolding words-A given-A calls-of parts-after room-of-all readings-list readings-checks frame-A calls.run loaded advanced advance-checks steps-made steps one-step fresh breaks-limit beyond frame-checks field number bits values-from decode curve-entry matrix right-side first-row-from weight total dot sum list-from stores stepped-digits stepped-residuals shifted next-digit next-residual select digit-size reading
+  unfolding words-A given-A calls-of parts-after room-of-all readings-list readings-checks frame-A calls.run loaded advanced advance-checks steps-made steps one-step fresh breaks-limit beyond frame-checks field number bits values-from decode curve-entry matrix right-side first-row-from every weight total dot sum list-from stores stepped-digits stepped-residuals shifted next-digit next-residual select digit-size reading
   list-A = p .accepted (omega (arith, accepted-A)) .1
 
-  -- by demand 3 four steps are made
-  answer-A : r ≡ record { refusal = 0; row = 0; made = 4 }
-  unfolding words-A given-A calls-of budgets frame-A field number bits
-  answer-A = p .accepted (omega (arith, accepted-A)) .0 ∙ ap (λ (k : ℕ). record { refusal = 0; row = 0; made = k }) (p .accurate (omega (arith, accepted-A)) .steps-made)
+  -- by demand 3 the scale is 0 and four steps are made
+  answer-A : r ≡ record { refusal = 0; row = 0; scale = 0; made = 4 }
+  unfolding words-A given-A calls-of budgets frame-A field number bits values-from decode right-side every
+  answer-A =
+      p .accepted (omega (arith, accepted-A)) .0
+      ∙ ap₂ (λ (c k : ℕ). record { refusal = 0; row = 0; scale = c; made = k }) (p .accurate (omega (arith, accepted-A)) .scale-held) (p .accurate (omega (arith, accepted-A)) .steps-made)
 
   -- and the fourth word is row 1's reading
   fourth-word-A : at final 3 ≡ pos 5
-  unfolding before-A room-of-all budgets frame-A field number bits values-from decode curve-entry matrix right-side dot sum digit residual shifted next-digit next-residual select digit-size reading
+  unfolding before-A room-of-all budgets frame-A field number bits values-from decode curve-entry matrix right-side dot sum digit residual shifted next-digit next-residual select digit-size reading every
   fourth-word-A = p .handed-out (omega (arith, accepted-A)) before-A [] (pos 73 ∷ pos 74 ∷ []) named-A (omega arith) 0 (omega arith)
 
   kept-A : at final 2 ≡ pos 72
@@ -79,8 +82,8 @@ module _ (r : Evaluated) (final : List ℤ) (p : Performed frame-A words-A given
 
 -- ---- D: refused by 8, with row 1
 
-refused-D : (r : Evaluated) (final : List ℤ) → Performed frame-D words-A given-A r final → (r ≡ record { refusal = 8; row = 1; made = 0 }) × (final ≡ given-A)
-unfolding frame-D frame-checks field number bits values-from decode curve-entry matrix right-side first-row-from weight total
+refused-D : (r : Evaluated) (final : List ℤ) → Performed frame-D words-A given-A r final → (r ≡ record { refusal = 8; row = 1; scale = 0; made = 0 }) × (final ≡ given-A)
+unfolding frame-D frame-checks field number bits values-from decode curve-entry matrix right-side first-row-from every weight total
 refused-D r final p = p .refused (omega arith)
 
 -- ---- a room past the end is cut to what is left, and an odd word at the end is no call

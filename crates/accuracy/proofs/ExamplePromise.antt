@@ -10,6 +10,7 @@ use Rattle.bitfields.specs.Twos.{decode}
 use Rattle.system.specs.Rows.{first-row-from}
 use Rattle.system.specs.System.{curve-entry, matrix, right-side}
 use Rattle.frame.specs.Frame.{frame-checks}
+use Rattle.scale.specs.Scale.{every}
 use Rattle.accuracy.specs.Accuracy.{advance, readings, budgets, after}
 use Rattle.accuracy.specs.Promise.{Promise}
 use Rattle.accuracy.specs.declared.Evaluated.{Evaluated}
@@ -19,21 +20,21 @@ use Rattle.accuracy.proofs.ExampleA.{calls-A, accepted-A, readings-A, f
 -- ---- D: x 5 in A
 
 -- it is refused by 8 with row 1, no step is made, and no word of the list changes
-pub promised-D : (list : List ℕ) (given : List ℤ) (r : Evaluated) (final : List ℤ) → Promise frame-D list given r final → (r ≡ record { refusal = 8; row = 1; made = 0 }) × (final ≡ given)
-unfolding frame-D frame-checks field number bits values-from decode curve-entry matrix right-side first-row-from weight total
+pub promised-D : (list : List ℕ) (given : List ℤ) (r : Evaluated) (final : List ℤ) → Promise frame-D list given r final → (r ≡ record { refusal = 8; row = 1; scale = 0; made = 0 }) × (final ≡ given)
+unfolding frame-D frame-checks field number bits values-from decode curve-entry matrix right-side first-row-from every weight total
 promised-D list given r final p = p .refused (omega arith)
 
 -- ---- A, with the budgets 1, 0 and 9 and three words lent
 
 module _ (x y w : ℤ) (r : Evaluated) (final : List ℤ) (p : Promise frame-A (1 ∷ 0 ∷ 9 ∷ []) (x ∷ y ∷ w ∷ []) r final) where
   -- it is not refused, four steps are made, and the list has 5, 8 and the third word as it was
-  pub promised-A : (r ≡ record { refusal = 0; row = 0; made = 4 }) × (final ≡ pos 5 ∷ pos 8 ∷ w ∷ [])
+  pub promised-A : (r ≡ record { refusal = 0; row = 0; scale = 0; made = 4 }) × (final ≡ pos 5 ∷ pos 8 ∷ w ∷ [])
   unfolding calls-A
   promised-A =
       let q = p .accepted (omega (arith, accepted-A)) in
-      (q .0 ∙ rw (readings-A x y w .3, readings-A x y w .4), q .1 ∙ readings-A x y w .5)
+      (q .0 ∙ rw (readings-A x y w .3, readings-A x y w .4, readings-A x y w .6), q .1 ∙ readings-A x y w .5)
 
   -- and demand 3 holds of the calls: after them four steps are made
   pub promised-steps-A : after frame-A (advance 1 ∷ advance 0 ∷ advance 9 ∷ readings (x ∷ y ∷ w ∷ []) ∷ []) .k ≡ 4
-  unfolding frame-A budgets field number bits
+  unfolding frame-A budgets field number bits values-from decode right-side every
   promised-steps-A = omega (arith, p .accurate (omega (arith, accepted-A)) .steps-made)

@@ -6,9 +6,12 @@ use Prim.Native.Nat.{ℕ, _<_}
 use native.Mathlib.Omega.{arith}
 use lib.IntN.{pos}
 use Rattle.integers.specs.Flat.{at}
-use Rattle.bitfields.specs.Layout.{field, number, bits}
+use Rattle.bitfields.specs.Layout.{field, number, bits, values-from}
 use Rattle.recurrence.specs.Recurrence.{reading}
 use Rattle.evaluator.specs.Evaluator.{readings-list}
+use Rattle.bitfields.specs.Twos.{decode}
+use Rattle.system.specs.System.{right-side}
+use Rattle.scale.specs.Scale.{every}
 use Rattle.accuracy.specs.Accuracy.{Call, advance, readings, budgets, Accurate, after, true-digit}
 use Rattle.evaluator.proofs.ExamplePastOrder.{frame-A}
 use Rattle.accuracy.proofs.ExampleA.{lent-A, two-steps-A, middle-A, end-A, mixed-A, digit-1-A, digit-2-A, readings-A}
@@ -22,7 +25,7 @@ module _ (holds : (calls : List Call) → Accurate frame-A calls) where
   -- the readings in the middle hand out both rows' readings after two steps
   pub handed-A : (at (readings-list (after frame-A middle-A) lent-A) 0 ≡ pos 1)
       × (at (readings-list (after frame-A middle-A) lent-A) 1 ≡ pos 2)
-  unfolding frame-A middle-A mixed-A budgets field number bits
+  unfolding frame-A middle-A mixed-A budgets field number bits values-from decode right-side every
   handed-A = (word 0 (omega arith) ∙ spelt .0, word 1 (omega arith) ∙ spelt .1)
     where
       word : (i : ℕ) → i < 2 → at (readings-list (after frame-A middle-A) lent-A) i ≡ reading 2 (true-digit frame-A) 2 i

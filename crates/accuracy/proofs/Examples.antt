@@ -9,6 +9,7 @@ use Rattle.integers.specs.Flat.{at, list-from, stores}
 use Rattle.integers.proofs.Normal.{solve, polys}
 use Rattle.integers.proofs.Order.{zarith}
 use Rattle.integers.proofs.Power.{cancel}
+use Rattle.integers.proofs.Ring.{*ℤ-one}
 use Rattle.integers.specs.Sum.{dot, weight, sum, total}
 use Rattle.bitfields.specs.Layout.{field, number, bits, values-from}
 use Rattle.bitfields.specs.Twos.{decode}
@@ -20,6 +21,7 @@ use Rattle.recurrence.specs.Recurrence.{shifted, next-digit, next-residual, rea
 use Rattle.curve.specs.Curve.{numerator-value, denominator-value}
 use Rattle.state.specs.State.{beyond, fresh, breaks-limit}
 use Rattle.evaluator.specs.Evaluator.{loaded, advanced, advance-checks, steps-made, readings-list}
+use Rattle.scale.specs.Scale.{every}
 use Rattle.accuracy.specs.Accuracy as calls
 use Rattle.accuracy.specs.Accuracy.{Call, advance, Accurate, ExactValues, after, held-digit, Y}
 use Rattle.accuracy.proofs.Demand3.{accurate}
@@ -42,8 +44,8 @@ pub numbers-A :
     (after frame-A calls-A .k ≡ 4)
     × (map (λ j. held-digit frame-A calls-A j 0) (1 ∷ 2 ∷ 3 ∷ 4 ∷ []) ≡ pos 0 ∷ pos 1 ∷ pos 1 ∷ negsuc 0 ∷ [])
     × (held-digit frame-A two-steps-A 3 0 ≡ pos 0)
-    × (natAbs (pos 5 *ℤ pos 4 -ℤ pos 16 *ℤ Y frame-A calls-A 2 0) ≤ 16)
-    × (natAbs (pos 5 *ℤ pos 4 -ℤ pos 16 *ℤ pos 1) ≤ 16)
+    × (natAbs (pos 5 *ℤ pos 4 -ℤ pos 16 *ℤ Y frame-A calls-A 2 0 *ℤ pos 1) ≤ 16)
+    × (natAbs (pos 5 *ℤ pos 4 -ℤ pos 16 *ℤ pos 1 *ℤ pos 1) ≤ 16)
     × (at (readings-list (after frame-A middle-A) lent-A) 0 ≡ pos 1)
     × (at (readings-list (after frame-A middle-A) lent-A) 1 ≡ pos 2)
     × (readings-list (after frame-A two-steps-A) [] ≡ [])
@@ -70,21 +72,21 @@ unfoldable pub calls-B : List Call
 calls-B = advance 3 ∷ advance 2 ∷ advance 7 ∷ []
 
 accepted-B : frame-refusal frame-B ≡ 0
-unfolding frame-B frame-checks field number bits values-from decode curve-entry matrix right-side first-row-from weight total
+unfolding frame-B frame-checks field number bits values-from decode curve-entry matrix right-side first-row-from every weight total
 accepted-B = refl
 
 steps-B : after frame-B calls-B .k ≡ 5
-unfolding frame-B calls-B calls.budgets field number bits
+unfolding frame-B calls-B calls.budgets field number bits values-from decode right-side every
 steps-B = accurate frame-B accepted-B calls-B .steps-made
 
 reading-B : Y frame-B calls-B 5 0 ≡ pos 15
-unfolding frame-B calls-B calls.run loaded advanced advance-checks steps-made steps one-step fresh breaks-limit beyond frame-checks field number bits values-from decode curve-entry matrix right-side first-row-from weight total dot sum list-from stores stepped-digits stepped-residuals shifted next-digit next-residual select digit-size reading
+unfolding frame-B calls-B calls.run loaded advanced advance-checks steps-made steps one-step fresh breaks-limit beyond frame-checks field number bits values-from decode curve-entry matrix right-side first-row-from every weight total dot sum list-from stores stepped-digits stepped-residuals shifted next-digit next-residual select digit-size reading
 reading-B = refl
 
 -- row 1's exact value is 16/33, in every solution, and the reading 15 after 5 steps, over 32, is within
 -- 1/32 of it
 pub case-B : (N : ℕ → ℤ) (D : ℕ) → 0 < D → ExactValues frame-B N D → (pos 33 *ℤ N 0 ≡ pos 16 *ℤ pos D) × (natAbs (N 0 *ℤ pos 32 -ℤ pos D *ℤ pos 15) ≤ D)
-unfolding frame-B field number bits values-from decode numerator-value denominator-value sum
+unfolding frame-B field number bits values-from decode numerator-value denominator-value sum right-side every
 case-B N D h exact = (cancel {d = pos 8} (omega zarith) (first (N 0) (pos D) (value N D exact)), near)
   where
     value : (N : ℕ → ℤ) (D : ℕ) → ExactValues frame-B N D → pos 264 *ℤ N 0 ≡ pos 128 *ℤ pos D
@@ -95,4 +97,4 @@ case-B N D h exact = (cancel {d = pos 8} (omega zarith) (first (N 0) (pos D) (va
         solve (x ∷ []) (search polys depth 12) (search polys depth 12) tt ∙ e ∙ solve (d ∷ []) (search polys depth 12) (search polys depth 12) tt
 
     near : natAbs (N 0 *ℤ pos 32 -ℤ pos D *ℤ pos 15) ≤ D
-    near = omega (arith, rw reading-B at (accurate frame-B accepted-B calls-B .near 5 (omega (arith, steps-B)) N D (omega (arith, steps-B)) exact 0 (omega arith)))
+    near = omega (arith, rw (reading-B, *ℤ-one (pos D *ℤ pos 15)) at (accurate frame-B accepted-B calls-B .near 5 (omega (arith, steps-B)) N D (omega (arith, steps-B)) exact 0 (omega arith)))

@@ -10,4 +10,5 @@ pub mod ExampleReadings
 pub mod ExampleIdentity
 pub mod ExamplePromise
 pub mod Examples
+pub mod ExampleE
 pub mod ExamplePerform

@@ -57,7 +57,7 @@ module _ (frame words : List ℕ) (given : List ℤ) (l : Loaded) (e : l ≡ loa
   unfolding loaded
   refusal-is = ap (λ (x : Loaded). x .refusal) e
 
-  pub performed-refused : 0 < l .refusal → Performed frame words given (record { refusal = l .refusal; row = l .row; made = 0 }) given
+  pub performed-refused : 0 < l .refusal → Performed frame words given (record { refusal = l .refusal; row = l .row; scale = 0; made = 0 }) given
   unfolding loaded
   performed-refused h =
       record {
@@ -69,7 +69,7 @@ module _ (frame words : List ℕ) (given : List ℤ) (l : Loaded) (e : l ≡ loa
       }
 
   pub performed-accepted : (t : State) (final : List ℤ) → l .refusal ≤ 0 → t ≡ run (l .state) (calls-of words given) → final ≡ list-after (l .state) (calls-of words given) given
-      → Performed frame words given (record { refusal = 0; row = 0; made = t .k }) final
+      → Performed frame words given (record { refusal = 0; row = 0; scale = t .scale; made = t .k }) final
   performed-accepted t final h et el =
       let ok : frame-refusal frame ≡ 0 = omega (arith, refusal-is) in
       let ft : t ≡ after frame (calls-of words given) = et ∙ ap (λ (x : Loaded). run (x .state) (calls-of words given)) e in

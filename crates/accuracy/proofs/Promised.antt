@@ -10,6 +10,9 @@ use lib.ListN.{length, drop}
 use Rattle.integers.specs.Flat.{list-from}
 use Rattle.job.specs.Header.{radix}
 use Rattle.job.proofs.Limits.{last-small}
+use Rattle.scale.specs.Scale.{job-scale}
+use Rattle.job.specs.Header.{Limits}
+use Rattle.job.specs.Rules.{ScaleLimits}
 use Rattle.job.specs.Refusal.{first-refusal}
 use Rattle.job.specs.declared.Header.{Header}
 use Rattle.frame.specs.Frame.{frame-refusal, frame-numbers}
@@ -26,7 +29,7 @@ use Rattle.evaluator.proofs.Kept.{fresh-start, loaded-passes-limits, loaded-pas
 use Rattle.stepping.proofs.Kept.{steps-pass-limits}
 use Rattle.evaluator.specs.Inner.{MayReadRows}
 use Rattle.evaluator.proofs.Calls.{readings-refuses, readings-writes}
-use Rattle.stepping.proofs.Steps.{steps-header, steps-k}
+use Rattle.stepping.proofs.Steps.{steps-header, steps-scale, steps-k}
 use Rattle.evaluator.proofs.Horner.{may-read-rows}
 use Rattle.stepping.proofs.Stepping.{fresh-whole}
 use Rattle.evaluator.proofs.Theorems.{accepted-load}
@@ -49,7 +52,7 @@ module _ (frame list : List ℕ) (given : List ℤ) (l : Loaded) (e : l ≡ load
   unfolding loaded
   refusal-is = ap (λ (x : Loaded). x .refusal) e
 
-  pub promise-refused : 0 < l .refusal → Promise frame list given (record { refusal = l .refusal; row = l .row; made = 0 }) given
+  pub promise-refused : 0 < l .refusal → Promise frame list given (record { refusal = l .refusal; row = l .row; scale = 0; made = 0 }) given
   unfolding loaded
   promise-refused h =
       record {
@@ -59,7 +62,7 @@ module _ (frame list : List ℕ) (given : List ℤ) (l : Loaded) (e : l ≡ load
       }
 
   pub promise-accepted : (t : State) (c : ℕ) (final : List ℤ) → l .refusal ≤ 0 → t ≡ run (l .state) (advances list) → c ≡ readings-refusal t (length given) → final ≡ readings-list t given
-      → Promise frame list given (record { refusal = c; row = 0; made = t .k }) final
+      → Promise frame list given (record { refusal = c; row = 0; scale = t .scale; made = t .k }) final
   promise-accepted t c final h et ec el =
       let ok : frame-refusal frame ≡ 0 = omega (arith, refusal-is) in
       let f : t ≡ after frame (advances list) = et ∙ ap (λ (x : Loaded). run (x .state) (advances list)) e in
@@ -80,17 +83,21 @@ module _ (frame list : List ℕ) (given : List ℤ) (l : Loaded) (e : l ≡ load
     job-is : job ≡ fresh (header-of frame) (frame-numbers frame)
     job-is = ap (λ (x : Loaded). x .state) e ∙ accepted-load frame (sym (ap (λ (x : Loaded). x .refusal) e) ∙ refusal-is ∙ ok)
 
-    job-start : (job .busy ≡ true) × (job .k ≡ 0) × (job .header ≡ header-of frame)
+    job-start : (job .busy ≡ true) × (job .k ≡ 0) × (job .header ≡ header-of frame) × (job .scale ≡ job-scale (header-of frame) (frame-numbers frame))
     job-start = rw job-is (fresh-start (header-of frame) (frame-numbers frame))
 
     job-sound : PassesLimits job
     job-sound = rw job-is (loaded-passes-limits frame ok)
 
     pub job-last-small : state-last job ≤ 60
-    job-last-small = last-small (job .header) (job-sound .limits)
+    job-last-small = last-small (job .header) (job .scale) (job-sound .scaled)
+
+    -- its last step can be asked for
+    pub job-limits : Limits (job .header) × ScaleLimits (job .header) (job .scale)
+    job-limits = (job-sound .limits, job-sound .scaled)
 
     passes : (j : ℕ) → j ≤ state-last job → first-refusal (state-checks (steps job j)) ≡ 0
-    passes j m = rw job-is (loaded-passes frame ok j (rw (job-start .2) at m))
+    passes j m = rw job-is (loaded-passes frame ok j (rw job-is at m))
 
     -- the steps that the budgets allow
     module _ (made : ℕ) (em : made ≡ smaller (state-last job) (budgets (advances list))) where
@@ -113,16 +120,17 @@ module _ (frame list : List ℕ) (given : List ℤ) (l : Loaded) (e : l ≡ load
       unfolding fresh
       room = rw job-is refl
 
-      pub steppable : MayStep (state-of true (job .header) 0 (job .g) (job .z) (job .digits)) made
+      pub steppable : MayStep (state-of true (job .header) (job .scale) 0 (job .g) (job .z) (job .digits)) made
       steppable =
           rw (fresh-whole job (job-start .0) (job-start .1))
           (record { passes = job-sound; room = room; left = omega (arith, made-most, job-start .1) })
 
-      with-made : (c : ℕ) (final : List ℤ) → Promise frame list given (record { refusal = c; row = 0; made = done .k }) final → Promise frame list given (record { refusal = c; row = 0; made = made }) final
-      with-made c final p = rw k-is at p
+      with-made : (c : ℕ) (final : List ℤ) → Promise frame list given (record { refusal = c; row = 0; scale = done .scale; made = done .k }) final
+          → Promise frame list given (record { refusal = c; row = 0; scale = job .scale; made = made }) final
+      with-made c final p = rw (steps-scale job made, k-is) at p
 
       -- what `make_steps` leaves, in `ds`, can be read
-      module _ (ds : List ℤ) (ed : ds ≡ steps (state-of true (job .header) 0 (job .g) (job .z) (job .digits)) made .digits) where
+      module _ (ds : List ℤ) (ed : ds ≡ steps (state-of true (job .header) (job .scale) 0 (job .g) (job .z) (job .digits)) made .digits) where
         digits-are : ds ≡ done .digits
         digits-are = rw (fresh-whole job (job-start .0) (job-start .1)) at ed
 
@@ -132,13 +140,13 @@ module _ (frame list : List ℕ) (given : List ℤ) (l : Loaded) (e : l ≡ load
 
         pub promise-done : (final : List ℤ) → job .header .n ≤ length given
             → final ≡ list-from 0 (job .header .n) (reading (radix (job .header .code)) (digits-of ds) made) ++ drop (job .header .n) given
-            → Promise frame list given (record { refusal = 0; row = 0; made = made }) final
+            → Promise frame list given (record { refusal = 0; row = 0; scale = job .scale; made = made }) final
         promise-done final m el =
             let r = readings-writes done given 0 0 (sym (passes made made-most)) (rw (steps-header job made, le-ltb (length given) (job .header .n) m) refl)
             final refl (readings-of done given (steps-header job made) k-is digits-are el) in
             with-made 0 final (promise-accepted done 0 final h run-made (r .0) (r .1))
 
-      pub promise-short : length given < job .header .n → Promise frame list given (record { refusal = 23; row = 0; made = made }) given
+      pub promise-short : length given < job .header .n → Promise frame list given (record { refusal = 23; row = 0; scale = job .scale; made = made }) given
       promise-short m =
           let r = readings-refuses done given 0 23 (sym (passes made made-most)) (rw (steps-header job made, lt-ltb (length given) (job .header .n) m) refl) (λ q. omega arith) in
           with-made 23 given (promise-accepted done 23 given h run-made (r .0) (r .1))

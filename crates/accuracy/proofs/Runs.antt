@@ -1,6 +1,6 @@
 -- Lists of calls from a fresh job are steps of it: as many as the smaller of the last step and the sum of
 -- the budgets. Cited by `Demand3`, and by the proof of `steps_allowed`.
-use mathlib.Core.Path.{_≡_, refl, sym, ap, _∙_}
+use mathlib.Core.Path.{_≡_, refl, sym, ap₂, _∙_}
 use mathlib.Core.Bool.{cond}
 use mathlib.Core.List.{List, [], _∷_, _++_}
 use mathlib.Core.Logic.{_⊎_, inl, inr}
@@ -19,7 +19,7 @@ use Rattle.state.specs.State.{state-checks, state-last}
 use Rattle.state.specs.declared.State.{State}
 use Rattle.stepping.specs.Steps.{steps}
 use Rattle.evaluator.specs.Evaluator.{smaller, advanced, advance-checks, steps-made}
-use Rattle.stepping.proofs.Steps.{steps-header, steps-k, steps-add}
+use Rattle.stepping.proofs.Steps.{steps-header, steps-scale, steps-k, steps-add}
 use Rattle.accuracy.specs.Accuracy.{Call, advance, readings, run, budgets, advances}
 
 -- ---- the smaller of two numbers
@@ -87,7 +87,7 @@ module _ (s : State) (start : s .k ≡ 0) (passes : (j : ℕ) → j ≤ state-la
   unfolding advanced
   advance-is j budget h =
       let e : j + steps-made (steps s j) budget ≡ smaller (state-last s) (j + budget) =
-      made-from (steps s j) j (state-last s) budget (made j) (ap last-step (steps-header s j)) (passes j h) h in
+      made-from (steps s j) j (state-last s) budget (made j) (ap₂ last-step (steps-header s j) (steps-scale s j)) (passes j h) h in
       sym (steps-add s j (steps-made (steps s j) budget)) ∙ rw e
 
   pub run-is : (j : ℕ) (calls : List Call) → j ≤ state-last s → run (steps s j) calls ≡ steps s (smaller (state-last s) (j + budgets calls))

@@ -4,15 +4,16 @@ use mathlib.Core.{Path._≡_, Bool.true, List.List, List._∷_, List._++_, List.
 use Prim.Native.Nat.{ℕ, _*_, _-_, _^_, _<_, _≤_, _+_}
 use lib.{IntN.ℤ, IntN.pos, IntN.natAbs, IntN._+ℤ_, IntN._-ℤ_, IntN._*ℤ_, ListN.length}
 use Rattle.integers.specs.{Flat.at, Sum.dot}
-use Rattle.job.specs.{Header.radix, Header.unit, Kind.Kind, Kind.kind-of, Rules.last-step, Rules.inner-unit}
+use Rattle.job.specs.{Header.radix, Header.unit, Kind.Kind, Kind.kind-of, Rules.last-step, Rules.scale-factor, Rules.inner-unit}
 use Rattle.system.specs.System.{matrix-of, right-side-of}
+use Rattle.scale.specs.Scale.{job-scale}
 use Rattle.header.specs.Header.{header-of}
 use Rattle.frame.specs.Frame.{frame-numbers, frame-refusal}
 use Rattle.recurrence.specs.Recurrence.{reading, Solves}
 use Rattle.curve.specs.Curve.{has-value, value-over, value-under, CurveValue}
 use Rattle.state.specs.{State.all-steps, State.digits-of, declared.State.State}
 use Rattle.evaluator.specs.Evaluator.{loaded, smaller, readings-refusal, readings-list, advanced}
-use Rattle.stepping.specs.Steps.{job-digit}
+use Rattle.stepping.specs.Steps.{finer, job-digit}
 
 -- ---- lists of calls (document 01, "Calls"): advance and readings in any order, made of the very
 -- definitions that the contracts of advance and readings cite
@@ -43,7 +44,7 @@ abbrev pub advances : List ℕ → List Call
 advances budgets = map advance budgets
 
 -- ---- a frame's job: the kind, the order n, the radix r, the largest digit p, the unit u = 2^f of its
--- numbers, the unit of the residuals inside its states, the last step
+-- numbers, the scale s, r^s, the unit u r^s of the residuals inside its states, the last step
 
 abbrev pub kind : List ℕ → Kind
 kind frame = kind-of (header-of frame .kind)
@@ -60,11 +61,17 @@ largest-digit frame = header-of frame .p
 abbrev pub unit-of : List ℕ → ℕ
 unit-of frame = unit (header-of frame)
 
+abbrev pub scale-of : List ℕ → ℕ
+scale-of frame = job-scale (header-of frame) (frame-numbers frame)
+
+abbrev pub factor-of : List ℕ → ℕ
+factor-of frame = scale-factor (header-of frame) (scale-of frame)
+
 abbrev pub inner-unit-of : List ℕ → ℕ
-inner-unit-of frame = inner-unit (header-of frame)
+inner-unit-of frame = inner-unit (header-of frame) (scale-of frame)
 
 abbrev pub last-step-of : List ℕ → ℕ
-last-step-of frame = last-step (header-of frame)
+last-step-of frame = last-step (header-of frame) (scale-of frame)
 
 -- the matrix G, which is the identity less A, and the right-hand sides b, in units of 1/u; rows and columns
 -- count from 0
@@ -74,9 +81,16 @@ G frame = matrix-of (header-of frame) (frame-numbers frame)
 abbrev pub b : List ℕ → ℕ → ℤ
 b frame = right-side-of (header-of frame) (frame-numbers frame)
 
+-- the same in units of 1/(u r^s): G, and the right-hand sides divided by r^s, which are the numbers of b
+abbrev pub inner-G : List ℕ → ℕ → ℕ → ℤ
+inner-G frame = finer (factor-of frame) (G frame)
+
+abbrev pub divided-b : List ℕ → ℕ → ℤ
+divided-b frame = b frame
+
 -- the digit of step j and row i that document 01's steps give on the frame's numbers
 abbrev pub true-digit : List ℕ → ℕ → ℕ → ℤ
-true-digit frame = job-digit (header-of frame) (G frame) (b frame)
+true-digit frame = job-digit (header-of frame) (scale-of frame) (G frame) (b frame)
 
 -- ---- its exact values
 
@@ -113,9 +127,12 @@ pub record Accurate (frame : List ℕ) (calls : List Call) : Type 0 where
   -- the digits are those of the steps on the frame's numbers, and 0 past the steps made
   pub digits : (j i : ℕ) → 1 ≤ j → j ≤ after frame calls .k → i < order frame → held-digit frame calls j i ≡ true-digit frame j i
   pub later-digits : (j i : ℕ) → after frame calls .k < j → j ≤ all-steps → i < order frame → held-digit frame calls j i ≡ pos 0
-  -- for every k up to the steps made, every exact value and every row: (r - 1) |N r^k - D Y| ≤ p D
+  -- the scale that the state holds, and hands on with every reading, is the frame's
+  pub scale-held : after frame calls .scale ≡ scale-of frame
+  -- for every k up to the steps made, every exact value and every row: (r - 1) |N r^k - D Y r^s| ≤ p D r^s
   pub near : (k : ℕ) → k ≤ after frame calls .k → (N : ℕ → ℤ) (D : ℕ) → 0 < D → ExactValues frame N D → (i : ℕ) → i < order frame →
-      (radix-of frame - 1) * natAbs (N i *ℤ pos (radix-of frame ^ k) -ℤ pos D *ℤ Y frame calls k i) ≤ largest-digit frame * D
+      (radix-of frame - 1) * natAbs (N i *ℤ pos (radix-of frame ^ k) -ℤ pos D *ℤ Y frame calls k i *ℤ pos (factor-of frame))
+      ≤ largest-digit frame * D * factor-of frame
   -- row 1's exact value is that of the curve, for the kinds that are curves: polynomials and rational curves
   pub curve : has-value (kind frame) ≡ true → ExactCurve frame
   -- a readings call on the way hands out each row's Y at the steps made by then, and nothing if it is refused
@@ -124,11 +141,12 @@ pub record Accurate (frame : List ℕ) (calls : List Call) : Type 0 where
       at (readings-list (after frame before) out) i ≡ reading (radix-of frame) (true-digit frame) (smaller (last-step-of frame) (budgets before)) i
   pub nothing-out : (before rest : List Call) (out : List ℤ) →
       calls ≡ before ++ (readings out ∷ rest) → 0 < readings-refusal (after frame before) (length out) → readings-list (after frame before) out ≡ out
-  -- r^k (b - A y) = z + G d, with y = Y / r^k and d the digits of step k, whether or not a solution is named
+  -- r^k (b - A y) = z + G d, with the divided b, y = Y / r^k and d the digits of step k, in units of
+  -- 1/(u r^s), whether or not a solution is named
   pub identity : (i : ℕ) → i < order frame → let k = after frame calls .k in
-      pos (radix-of frame ^ k) *ℤ b frame i
-      -ℤ (pos (inner-unit-of frame) *ℤ Y frame calls k i -ℤ dot (order frame) (G frame i) (Y frame calls k))
-      ≡ at (after frame calls .z) i +ℤ dot (order frame) (G frame i) (held-digit frame calls k)
+      pos (radix-of frame ^ k) *ℤ divided-b frame i
+      -ℤ (pos (inner-unit-of frame) *ℤ Y frame calls k i -ℤ dot (order frame) (inner-G frame i) (Y frame calls k))
+      ≡ at (after frame calls .z) i +ℤ dot (order frame) (inner-G frame i) (held-digit frame calls k)
 
 -- Every accepted frame is accurate after every list of calls. `accurate` of proofs/Demand3.antt proves it.
 abbrev pub EveryFrameAccurate : Type 0

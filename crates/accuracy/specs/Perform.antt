@@ -60,9 +60,10 @@ Untouched n calls j = (before rest : List Call) (part : List ℤ) → calls ≡ 
 pub record Performed (frame words : List ℕ) (given : List ℤ) (r : Evaluated) (final : List ℤ) : Type 0 where
   -- a refused frame: no call is made and nothing handed out
   pub refused : 0 < frame-refusal frame → (r ≡ refused-evaluated frame) × (final ≡ given)
-  -- an accepted one: the steps that the calls made in all, and the list as the calls leave it
+  -- an accepted one: the scale, the steps that the calls made in all, and the list as the calls leave it
   pub accepted : frame-refusal frame ≡ 0 → let calls = calls-of words given in
-      (r ≡ record { refusal = 0; row = 0; made = after frame calls .k }) × (final ≡ list-after (loaded frame .state) calls given)
+      (r ≡ record { refusal = 0; row = 0; scale = after frame calls .scale; made = after frame calls .k })
+      × (final ≡ list-after (loaded frame .state) calls given)
   -- demand 3 of just these calls
   pub accurate : frame-refusal frame ≡ 0 → Accurate frame (calls-of words given)
   -- and of every word handed out: a readings call whose part has a word for each row leaves in it each row's

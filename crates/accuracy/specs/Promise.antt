@@ -11,14 +11,19 @@ use Rattle.accuracy.specs.{Accuracy.after, Accuracy.Accurate, Accuracy.r
 -- the answer to a refused frame: its number and row, and no step made
 abbrev pub refused-evaluated : List ℕ → Evaluated
 refused-evaluated frame =
-    record { refusal = frame-refusal frame; row = frame-row (frame-refusal frame) (header-of frame) (frame-numbers frame); made = 0 }
+    record {
+      refusal = frame-refusal frame;
+      row = frame-row (frame-refusal frame) (header-of frame) (frame-numbers frame);
+      scale = 0;
+      made = 0;
+    }
 
 -- `given` is the list lent, `final` what is in it at the end
 pub record Promise (frame budgets : List ℕ) (given : List ℤ) (r : Evaluated) (final : List ℤ) : Type 0 where
   -- a refused frame: nothing is handed out
   pub refused : 0 < frame-refusal frame → (r ≡ refused-evaluated frame) × (final ≡ given)
-  -- an accepted one: the steps made, and the readings as the call of readings hands them out
+  -- an accepted one: the scale, the steps made, and the readings as the call of readings hands them out
   pub accepted : frame-refusal frame ≡ 0 → let s = after frame (advances budgets) in
-      (r ≡ record { refusal = readings-refusal s (length given); row = 0; made = s .k }) × (final ≡ readings-list s given)
+      (r ≡ record { refusal = readings-refusal s (length given); row = 0; scale = s .scale; made = s .k }) × (final ≡ readings-list s given)
   -- and demand 3
   pub accurate : frame-refusal frame ≡ 0 → Accurate frame (advances budgets ++ (readings given ∷ []))

@@ -52,8 +52,9 @@ fn make_calls(s: State, words: &[u64], list: &mut [i64]) -> State
 
 // Loads a frame and makes the calls that the words name. Two words are a call: 0 and a budget is advance, any
 // other word and a room is readings, which get the next `room` words of `out`, or all that are left where
-// fewer are; an odd word at the end is no call. Refused as load is, by 1 to 9: no call is then made, and no
-// word of `out` changed. A call of the list that is refused changes nothing, and those after it are made.
+// fewer are; an odd word at the end is no call. Refused as load is, by 1 to 8 and 15: no call is then made,
+// and no word of `out` changed. A call of the list that is refused changes nothing, and those after it are
+// made.
 pub fn perform(frame: &[u8], words: &[u64], out: &mut [i64]) -> Evaluated
     ensures { λ r. ⌜ Performed (now (frame .entry)) (now (words .entry)) (now (out .entry)) r (now (out .exit)) ⌝ }
 {
@@ -62,6 +63,7 @@ pub fn perform(frame: &[u8], words: &[u64], out: &mut [i64]) -> Evaluated
         return Evaluated {
             refusal: l.refusal,
             row: l.row,
+            scale: 0,
             made: 0,
         };
     }
@@ -70,6 +72,7 @@ pub fn perform(frame: &[u8], words: &[u64], out: &mut [i64]) -> Evaluated
     Evaluated {
         refusal: 0,
         row: 0,
+        scale: t.scale,
         made: t.k,
     }
 }

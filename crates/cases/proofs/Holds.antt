@@ -6,6 +6,7 @@ use Rattle.bitfields.specs.Layout.{field, number, bits, values-from, octets, pa
 use Rattle.bitfields.specs.Twos.{encode, decode}
 use Rattle.system.specs.Rows.{first-row-from}
 use Rattle.system.specs.System.{curve-entry, system-entry, matrix, right-side}
+use Rattle.scale.specs.Scale.{every}
 use Rattle.frame.specs.Frame.{frame-checks}
 use Rattle.stepping.specs.Steps.{stepped-digits, stepped-residuals, steps, one-step}
 use Rattle.recurrence.specs.Recurrence.{shifted, next-digit, next-residual, reading, select, digit-size}
@@ -19,5 +20,5 @@ unfolding table
 table-size = refl
 
 pub table-holds : TableHolds
-unfolding table outcome-of digit-rows list-from stores dot weight sum total field number bits values-from octets pack encode decode first-row-from curve-entry system-entry matrix right-side frame-checks stepped-digits stepped-residuals shifted next-digit next-residual reading select digit-size beyond fresh idle-state breaks-limit loaded advanced advance-checks steps one-step steps-made digit-list digit-array state-record
+unfolding table outcome-of digit-rows list-from stores dot weight sum total field number bits values-from octets pack encode decode first-row-from curve-entry system-entry matrix right-side every frame-checks stepped-digits stepped-residuals shifted next-digit next-residual reading select digit-size beyond fresh idle-state breaks-limit loaded advanced advance-checks steps one-step steps-made digit-list digit-array state-record
 table-holds = refl

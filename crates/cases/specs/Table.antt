@@ -1,6 +1,6 @@
--- Document 01's cases as one table, marked * or not: what the definitions make of each frame, and the exact
--- values of its system (claim C10). The statements are proved in proofs/Holds.antt and proofs/Values.antt,
--- and the program of src/ makes the calls and compares.
+-- Document 01's cases, marked * or not, and those of scales (document 02, request 1) as one table: what the
+-- definitions make of each frame, and the exact values of its system (claim C10). The statements are proved
+-- in proofs/Holds.antt and proofs/Values.antt, and the program of src/ makes the calls and compares.
 use mathlib.Core.{Path._≡_, Bool.cond, List.List, List.[], List._∷_, List.List·Memᴰ, List.map}
 use Prim.Native.Nat.{ℕ, zero, suc, _<_}
 use lib.{Dec.eqb, IntN.ℤ, IntN.pos, IntN.negℤ, ListN.length, ListN.replicate}
@@ -14,11 +14,12 @@ use Rattle.accuracy.specs.Accuracy.{order, ExactValues}
 
 -- ---- what the definitions make of a frame
 
--- the refusal, 0 where there is none, and the row given with it; the numbers as sent; after all steps the
--- digits row by row, the readings and the trace
+-- the refusal, 0 where there is none, and the row given with it; the scale; the numbers as sent; after all
+-- steps the digits row by row, the readings and the trace
 pub record Outcome : Type 0 where
   pub refusal : ℕ
   pub row : ℕ
+  pub scale : ℕ
   pub numbers : List ℤ
   pub digits : List (List ℤ)
   pub readings : List ℤ
@@ -26,7 +27,7 @@ pub record Outcome : Type 0 where
 
 -- refused: nothing else is handed out
 abbrev pub refused-outcome : ℕ → ℕ → Outcome
-refused-outcome refusal row = record { refusal = refusal; row = row; numbers = []; digits = []; readings = []; trace = [] }
+refused-outcome refusal row = record { refusal = refusal; row = row; scale = 0; numbers = []; digits = []; readings = []; trace = [] }
 
 -- the digits of n rows from row i on, each by steps
 unfoldable pub digit-rows : State → ℕ → ℕ → List (List ℤ)
@@ -39,6 +40,7 @@ accepted-outcome frame s =
     record {
       refusal = 0;
       row = 0;
+      scale = s .scale;
       numbers = frame-numbers frame;
       digits = digit-rows s 0 (s .header .n);
       readings = list-from 0 (s .header .n) (state-reading s);
@@ -64,11 +66,11 @@ pub record Case : Type 0 where
 abbrev pub refused : (frame : List ℕ) (refusal row : ℕ) → Case
 refused frame refusal row = record { frame = frame; outcome = refused-outcome refusal row; denominator = 0; values = [] }
 
-abbrev pub accepted : (frame : List ℕ) (numbers readings : List ℤ) (digits : List (List ℤ)) (trace : List ℕ) (denominator : ℕ) (values : List ℤ) → Case
-accepted frame numbers readings digits trace denominator values =
+abbrev pub accepted : (frame : List ℕ) (scale : ℕ) (numbers readings : List ℤ) (digits : List (List ℤ)) (trace : List ℕ) (denominator : ℕ) (values : List ℤ) → Case
+accepted frame scale numbers readings digits trace denominator values =
     record {
       frame = frame;
-      outcome = record { refusal = 0; row = 0; numbers = numbers; digits = digits; readings = readings; trace = trace };
+      outcome = record { refusal = 0; row = 0; scale = scale; numbers = numbers; digits = digits; readings = readings; trace = trace };
       denominator = denominator;
       values = values;
     }
@@ -79,40 +81,46 @@ minus n = negℤ (pos n)
 unfoldable pub table : List Case
 table =
     -- A: polynomial, x 4, p 3 and 8, m 4
-    accepted (1 ∷ 16 ∷ 68 ∷ 16 ∷ 50 ∷ 0 ∷ []) (pos 4 ∷ pos 3 ∷ pos 8 ∷ []) (pos 5 ∷ pos 8 ∷ [])
+    accepted (1 ∷ 16 ∷ 68 ∷ 16 ∷ 50 ∷ 0 ∷ []) 0 (pos 4 ∷ pos 3 ∷ pos 8 ∷ []) (pos 5 ∷ pos 8 ∷ [])
     ((pos 0 ∷ pos 1 ∷ pos 1 ∷ minus 1 ∷ []) ∷ (pos 1 ∷ pos 0 ∷ pos 0 ∷ pos 0 ∷ []) ∷ [])
     (1 ∷ 16 ∷ 68 ∷ 16 ∷ 1 ∷ 8 ∷ 2 ∷ 15 ∷ 128 ∷ []) 16 (pos 5 ∷ pos 8 ∷ []) ∷
     -- B: rational, x 2, p 8 and 0, q_1 4, m 5
-    accepted (65 ∷ 16 ∷ 69 ∷ 8 ∷ 128 ∷ 4 ∷ []) (pos 2 ∷ pos 8 ∷ pos 0 ∷ pos 4 ∷ []) (pos 15 ∷ minus 4 ∷ [])
+    accepted (65 ∷ 16 ∷ 69 ∷ 8 ∷ 128 ∷ 4 ∷ []) 0 (pos 2 ∷ pos 8 ∷ pos 0 ∷ pos 4 ∷ []) (pos 15 ∷ minus 4 ∷ [])
     ((pos 1 ∷ pos 0 ∷ pos 0 ∷ pos 0 ∷ minus 1 ∷ []) ∷ (pos 0 ∷ minus 1 ∷ pos 1 ∷ pos 0 ∷ pos 0 ∷ []) ∷ [])
     (65 ∷ 16 ∷ 69 ∷ 20 ∷ 32 ∷ 7 ∷ 192 ∷ 16 ∷ 3 ∷ 224 ∷ []) 33 (pos 16 ∷ minus 4 ∷ []) ∷
     -- C: system, n 1, a 12, b 8, m 4
-    accepted (129 ∷ 16 ∷ 4 ∷ 48 ∷ 128 ∷ []) (pos 12 ∷ pos 8 ∷ []) (pos 11 ∷ [])
+    accepted (129 ∷ 16 ∷ 4 ∷ 48 ∷ 128 ∷ []) 0 (pos 12 ∷ pos 8 ∷ []) (pos 11 ∷ [])
     ((pos 1 ∷ pos 1 ∷ minus 1 ∷ pos 1 ∷ []) ∷ [])
     (129 ∷ 16 ∷ 4 ∷ 16 ∷ 33 ∷ 248 ∷ 64 ∷ []) 3 (pos 2 ∷ []) ∷
     refused (1 ∷ 16 ∷ 68 ∷ 20 ∷ 50 ∷ 0 ∷ []) 8 1 ∷  -- D: x 5 in A
-    refused (1 ∷ 16 ∷ 68 ∷ 16 ∷ 146 ∷ 0 ∷ []) 9 1 ∷  -- E: p_0 9 in A
+    -- E: p_0 9 in A, scale 1
+    accepted (1 ∷ 16 ∷ 68 ∷ 16 ∷ 146 ∷ 0 ∷ []) 1 (pos 4 ∷ pos 9 ∷ pos 8 ∷ []) (pos 11 ∷ pos 8 ∷ [])
+    ((pos 1 ∷ pos 0 ∷ minus 1 ∷ minus 1 ∷ pos 1 ∷ []) ∷ (pos 1 ∷ minus 1 ∷ pos 0 ∷ pos 0 ∷ pos 0 ∷ []) ∷ [])
+    (1 ∷ 16 ∷ 68 ∷ 20 ∷ 33 ∷ 7 ∷ 254 ∷ 15 ∷ 128 ∷ 32 ∷ []) 16 (pos 11 ∷ pos 8 ∷ []) ∷
     -- E: p_0 8 in A
-    accepted (1 ∷ 16 ∷ 68 ∷ 16 ∷ 130 ∷ 0 ∷ []) (pos 4 ∷ pos 8 ∷ pos 8 ∷ []) (pos 10 ∷ pos 8 ∷ [])
+    accepted (1 ∷ 16 ∷ 68 ∷ 16 ∷ 130 ∷ 0 ∷ []) 0 (pos 4 ∷ pos 8 ∷ pos 8 ∷ []) (pos 10 ∷ pos 8 ∷ [])
     ((pos 1 ∷ pos 1 ∷ minus 1 ∷ pos 0 ∷ []) ∷ (pos 1 ∷ pos 0 ∷ pos 0 ∷ pos 0 ∷ []) ∷ [])
     (1 ∷ 16 ∷ 68 ∷ 16 ∷ 33 ∷ 8 ∷ 62 ∷ 0 ∷ 0 ∷ []) 16 (pos 10 ∷ pos 8 ∷ []) ∷
     -- E: p_0 -8 in A
-    accepted (1 ∷ 16 ∷ 68 ∷ 19 ∷ 130 ∷ 0 ∷ []) (pos 4 ∷ minus 8 ∷ pos 8 ∷ []) (minus 6 ∷ pos 8 ∷ [])
+    accepted (1 ∷ 16 ∷ 68 ∷ 19 ∷ 130 ∷ 0 ∷ []) 0 (pos 4 ∷ minus 8 ∷ pos 8 ∷ []) (minus 6 ∷ pos 8 ∷ [])
     ((minus 1 ∷ pos 1 ∷ minus 1 ∷ pos 0 ∷ []) ∷ (pos 1 ∷ pos 0 ∷ pos 0 ∷ pos 0 ∷ []) ∷ [])
     (1 ∷ 16 ∷ 68 ∷ 19 ∷ 225 ∷ 8 ∷ 62 ∷ 0 ∷ 0 ∷ []) 16 (minus 6 ∷ pos 8 ∷ []) ∷
-    refused (1 ∷ 16 ∷ 68 ∷ 19 ∷ 114 ∷ 0 ∷ []) 9 1 ∷  -- E: p_0 -9 in A
+    -- E: p_0 -9 in A, scale 1
+    accepted (1 ∷ 16 ∷ 68 ∷ 19 ∷ 114 ∷ 0 ∷ []) 1 (pos 4 ∷ minus 9 ∷ pos 8 ∷ []) (minus 7 ∷ pos 8 ∷ [])
+    ((minus 1 ∷ pos 1 ∷ pos 0 ∷ pos 1 ∷ minus 1 ∷ []) ∷ (pos 1 ∷ minus 1 ∷ pos 0 ∷ pos 0 ∷ pos 0 ∷ []) ∷ [])
+    (1 ∷ 16 ∷ 68 ∷ 23 ∷ 225 ∷ 15 ∷ 192 ∷ 0 ∷ 131 ∷ 224 ∷ []) 16 (minus 7 ∷ pos 8 ∷ []) ∷
     -- F: r 4, p 2, x 1
-    accepted (18 ∷ 16 ∷ 68 ∷ 4 ∷ 50 ∷ 0 ∷ []) (pos 1 ∷ pos 3 ∷ pos 8 ∷ []) (pos 56 ∷ pos 128 ∷ [])
+    accepted (18 ∷ 16 ∷ 68 ∷ 4 ∷ 50 ∷ 0 ∷ []) 0 (pos 1 ∷ pos 3 ∷ pos 8 ∷ []) (pos 56 ∷ pos 128 ∷ [])
     ((pos 1 ∷ minus 1 ∷ pos 2 ∷ pos 0 ∷ []) ∷ (pos 2 ∷ pos 0 ∷ pos 0 ∷ pos 0 ∷ []) ∷ [])
     (18 ∷ 16 ∷ 68 ∷ 16 ∷ 34 ∷ 248 ∷ 4 ∷ 0 ∷ 0 ∷ []) 32 (pos 7 ∷ pos 16 ∷ []) ∷
     refused (18 ∷ 16 ∷ 68 ∷ 8 ∷ 50 ∷ 0 ∷ []) 8 1 ∷  -- F: r 4, p 2, x 2
     -- F: r 4, p 3, x 2
-    accepted (19 ∷ 16 ∷ 68 ∷ 8 ∷ 50 ∷ 0 ∷ []) (pos 2 ∷ pos 3 ∷ pos 8 ∷ []) (pos 64 ∷ pos 128 ∷ [])
+    accepted (19 ∷ 16 ∷ 68 ∷ 8 ∷ 50 ∷ 0 ∷ []) 0 (pos 2 ∷ pos 3 ∷ pos 8 ∷ []) (pos 64 ∷ pos 128 ∷ [])
     ((pos 1 ∷ pos 0 ∷ pos 0 ∷ pos 0 ∷ []) ∷ (pos 2 ∷ pos 0 ∷ pos 0 ∷ pos 0 ∷ []) ∷ [])
     (19 ∷ 16 ∷ 68 ∷ 16 ∷ 34 ∷ 0 ∷ 0 ∷ 0 ∷ 0 ∷ []) 16 (pos 4 ∷ pos 8 ∷ []) ∷
     refused (19 ∷ 16 ∷ 68 ∷ 12 ∷ 50 ∷ 0 ∷ []) 8 1 ∷  -- F: r 4, p 3, x 3
     -- G: polynomial, n 1, x 31, p_0 8
-    accepted (1 ∷ 16 ∷ 4 ∷ 124 ∷ 128 ∷ []) (pos 31 ∷ pos 8 ∷ []) (pos 8 ∷ [])
+    accepted (1 ∷ 16 ∷ 4 ∷ 124 ∷ 128 ∷ []) 0 (pos 31 ∷ pos 8 ∷ []) (pos 8 ∷ [])
     ((pos 1 ∷ pos 0 ∷ pos 0 ∷ pos 0 ∷ []) ∷ [])
     (1 ∷ 16 ∷ 4 ∷ 16 ∷ 32 ∷ 0 ∷ 0 ∷ []) 2 (pos 1 ∷ []) ∷
     refused (1 ∷ 16 ∷ 68 ∷ 20 ∷ 146 ∷ 0 ∷ []) 8 1 ∷  -- H: x 5 and p_0 9 together
@@ -120,15 +128,38 @@ table =
     refused (1 ∷ 16 ∷ 68 ∷ 16 ∷ 50 ∷ 1 ∷ []) 7 0 ∷  -- H: A with last byte 01
     refused (1 ∷ 16 ∷ 68 ∷ 16 ∷ 50 ∷ 0 ∷ 0 ∷ []) 6 0 ∷  -- H: A with a byte more
     -- the edge of m at r 2: A with m 60
-    accepted (1 ∷ 16 ∷ 124 ∷ 16 ∷ 50 ∷ 0 ∷ []) (pos 4 ∷ pos 3 ∷ pos 8 ∷ []) (pos 360287970189639680 ∷ pos 576460752303423488 ∷ [])
+    accepted (1 ∷ 16 ∷ 124 ∷ 16 ∷ 50 ∷ 0 ∷ []) 0 (pos 4 ∷ pos 3 ∷ pos 8 ∷ []) (pos 360287970189639680 ∷ pos 576460752303423488 ∷ [])
     ((pos 0 ∷ pos 1 ∷ pos 1 ∷ minus 1 ∷ replicate 56 (pos 0)) ∷ (pos 1 ∷ replicate 59 (pos 0)) ∷ [])
     (1 ∷ 16 ∷ 124 ∷ 240 ∷ 1 ∷ 8 ∷ 2 ∷ 15 ∷ 128 ∷ replicate 70 0) 16 (pos 5 ∷ pos 8 ∷ []) ∷
     refused (1 ∷ 16 ∷ 125 ∷ 16 ∷ 50 ∷ 0 ∷ []) 5 0 ∷  -- the edge of m at r 2: A with m 61
     -- the edge of m at r 16: p 8, x 0, p_0 3 and p_1 8, m 15
-    accepted (56 ∷ 16 ∷ 79 ∷ 0 ∷ 50 ∷ 0 ∷ []) (pos 0 ∷ pos 3 ∷ pos 8 ∷ []) (pos 216172782113783808 ∷ pos 576460752303423488 ∷ [])
+    accepted (56 ∷ 16 ∷ 79 ∷ 0 ∷ 50 ∷ 0 ∷ []) 0 (pos 0 ∷ pos 3 ∷ pos 8 ∷ []) (pos 216172782113783808 ∷ pos 576460752303423488 ∷ [])
     ((pos 3 ∷ replicate 14 (pos 0)) ∷ (pos 8 ∷ replicate 14 (pos 0)) ∷ [])
     (56 ∷ 16 ∷ 79 ∷ 60 ∷ 104 ∷ replicate 18 0) 16 (pos 3 ∷ pos 8 ∷ []) ∷
     refused (56 ∷ 16 ∷ 80 ∷ 0 ∷ 50 ∷ 0 ∷ []) 5 0 ∷  -- the edge of m at r 16: m 16
+    -- A with p_0 16, which is exactly 1: scale 1
+    accepted (1 ∷ 16 ∷ 68 ∷ 17 ∷ 2 ∷ 0 ∷ []) 1 (pos 4 ∷ pos 16 ∷ pos 8 ∷ []) (pos 18 ∷ pos 8 ∷ [])
+    ((pos 1 ∷ pos 1 ∷ minus 1 ∷ minus 1 ∷ pos 0 ∷ []) ∷ (pos 1 ∷ minus 1 ∷ pos 0 ∷ pos 0 ∷ pos 0 ∷ []) ∷ [])
+    (1 ∷ 16 ∷ 68 ∷ 20 ∷ 33 ∷ 15 ∷ 254 ∷ 15 ∷ 128 ∷ 0 ∷ []) 16 (pos 18 ∷ pos 8 ∷ []) ∷
+    -- A with p_0 17: scale 2
+    accepted (1 ∷ 16 ∷ 68 ∷ 17 ∷ 18 ∷ 0 ∷ []) 2 (pos 4 ∷ pos 17 ∷ pos 8 ∷ []) (pos 19 ∷ pos 8 ∷ [])
+    ((pos 1 ∷ minus 1 ∷ pos 1 ∷ minus 1 ∷ minus 1 ∷ pos 1 ∷ []) ∷ (pos 0 ∷ pos 1 ∷ minus 1 ∷ pos 0 ∷ pos 0 ∷ pos 0 ∷ []) ∷ [])
+    (1 ∷ 16 ∷ 68 ∷ 24 ∷ 32 ∷ 248 ∷ 67 ∷ 255 ∷ 131 ∷ 224 ∷ 8 ∷ 0 ∷ []) 16 (pos 19 ∷ pos 8 ∷ []) ∷
+    -- A with p_1 -32, which is exactly -2: scale 2, by row 2
+    accepted (1 ∷ 16 ∷ 68 ∷ 16 ∷ 56 ∷ 0 ∷ []) 2 (pos 4 ∷ pos 3 ∷ minus 32 ∷ []) (minus 5 ∷ minus 32 ∷ [])
+    ((pos 0 ∷ pos 0 ∷ minus 1 ∷ pos 1 ∷ minus 1 ∷ pos 1 ∷ []) ∷ (minus 1 ∷ pos 0 ∷ pos 0 ∷ pos 0 ∷ pos 0 ∷ pos 0 ∷ []) ∷ [])
+    (1 ∷ 16 ∷ 68 ∷ 24 ∷ 31 ∷ 0 ∷ 62 ∷ 0 ∷ 131 ∷ 224 ∷ 8 ∷ 0 ∷ []) 16 (minus 5 ∷ minus 32 ∷ []) ∷
+    -- the edge of m + s at r 2: A with m 59 and p_0 9, which has 60 steps
+    accepted (1 ∷ 16 ∷ 123 ∷ 16 ∷ 146 ∷ 0 ∷ []) 1 (pos 4 ∷ pos 9 ∷ pos 8 ∷ []) (pos 396316767208603648 ∷ pos 288230376151711744 ∷ [])
+    ((pos 1 ∷ pos 0 ∷ minus 1 ∷ minus 1 ∷ pos 1 ∷ replicate 55 (pos 0)) ∷ (pos 1 ∷ minus 1 ∷ replicate 58 (pos 0)) ∷ [])
+    (1 ∷ 16 ∷ 123 ∷ 240 ∷ 33 ∷ 7 ∷ 254 ∷ 15 ∷ 128 ∷ 32 ∷ replicate 69 0) 16 (pos 11 ∷ pos 8 ∷ []) ∷
+    refused (1 ∷ 16 ∷ 124 ∷ 16 ∷ 146 ∷ 0 ∷ []) 15 0 ∷  -- the edge of m + s at r 2: A with m 60 and p_0 9
+    refused (1 ∷ 16 ∷ 124 ∷ 20 ∷ 146 ∷ 0 ∷ []) 8 1 ∷  -- the same with x 5: 8 comes before 15
+    -- the edge of m + s at r 16: p 8, x 0, p_0 9 and p_1 8, m 14, which has 15 steps
+    accepted (56 ∷ 16 ∷ 78 ∷ 0 ∷ 146 ∷ 0 ∷ []) 1 (pos 0 ∷ pos 9 ∷ pos 8 ∷ []) (pos 40532396646334464 ∷ pos 36028797018963968 ∷ [])
+    ((pos 1 ∷ minus 7 ∷ replicate 13 (pos 0)) ∷ (pos 1 ∷ minus 8 ∷ replicate 13 (pos 0)) ∷ [])
+    (56 ∷ 16 ∷ 78 ∷ 60 ∷ 33 ∷ 206 ∷ replicate 17 0) 16 (pos 9 ∷ pos 8 ∷ []) ∷
+    refused (56 ∷ 16 ∷ 79 ∷ 0 ∷ 146 ∷ 0 ∷ []) 15 0 ∷  -- the edge of m + s at r 16: m 15
     []
 
 -- ---- what is proved of it
@@ -138,7 +169,7 @@ abbrev pub rows-in-table : ℕ
 rows-in-table = length table
 
 abbrev pub TableSize : Type 0
-TableSize = rows-in-table ≡ 21
+TableSize = rows-in-table ≡ 29
 
 -- every row is what the definitions make of its frame
 abbrev pub TableHolds : Type 0

@@ -11,12 +11,12 @@ use Rattle.cases.specs.Table.{Case, table}
 abbrev pub sized : List ℤ → List ℤ
 sized words = pos (length words) ∷ words
 
--- the frame's bytes, the refusal, the row, the numbers, how many rows of digits there are and each of them,
--- the readings, the trace's bytes
+-- the frame's bytes, the refusal, the row, the scale, the numbers, how many rows of digits there are and each
+-- of them, the readings, the trace's bytes
 abbrev pub case-words : Case → List ℤ
 case-words c =
     sized (map pos (c .frame))
-    ++ (pos (c .outcome .refusal) ∷ pos (c .outcome .row) ∷ [])
+    ++ (pos (c .outcome .refusal) ∷ pos (c .outcome .row) ∷ pos (c .outcome .scale) ∷ [])
     ++ sized (c .outcome .numbers)
     ++ (pos (length (c .outcome .digits)) ∷ flatMap sized (c .outcome .digits))
     ++ sized (c .outcome .readings)
@@ -31,13 +31,13 @@ unfoldable pub lines : ℕ → List ℤ → List (List ℤ)
 lines zero words = []
 lines (suc k) words = take 15 words ∷ lines k (drop 15 words)
 
--- 49 lines have room for 735 words, 4 more than there are
+-- 86 lines have room for 1,290 words, 9 more than there are
 unfoldable pub table-lines : List (List ℤ)
-table-lines = lines 49 (table-words ++ replicate 4 (pos 0))
+table-lines = lines 86 (table-words ++ replicate 9 (pos 0))
 
 -- the word at a place, and 0 past the last line
 abbrev pub word-at : List (List ℤ) → ℕ → ℤ
-word-at ls place = cond (ltb place 735) (at (getD ls (place / 15) []) (place % 15)) (pos 0)
+word-at ls place = cond (ltb place 1290) (at (getD ls (place / 15) []) (place % 15)) (pos 0)
 
 -- ---- what the program's comparisons say of words
 

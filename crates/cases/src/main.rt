@@ -1,5 +1,5 @@
-// Document 01's cases, run and held against the table of specs/Table.antt, which is proved of the
-// definitions.
+// Document 01's cases and those of scales, run and held against the table of specs/Table.antt, which is
+// proved of the definitions.
 //
 // For each row the calls are made, and what they answer and hand out is compared with the row's words, part
 // by part. A case that differs has a line with its number, from 1, and what differs first. The last line says
@@ -35,6 +35,7 @@ enum Part {
     Nothing,
     Refusal,
     Row,
+    Scale,
     Numbers,
     Digits,
     Readings,
@@ -113,7 +114,7 @@ fn same_list(t: &Lines, place: usize, v: &[i64], n: usize) -> bool
     true
 }
 
-// Whether the refusal and the row at a place are those of the frame reader, and the list after them the
+// Whether the refusal and the row at a place are those of the frame reader, and the list after the scale the
 // numbers that it hands out, none with a refusal.
 fn same_numbers(t: &Lines, place: usize, frame: &[u8]) -> bool
     requires { ⌜ place ≤ 12000 ⌝ }
@@ -124,9 +125,9 @@ fn same_numbers(t: &Lines, place: usize, frame: &[u8]) -> bool
         return false;
     }
     if a.refusal != 0 {
-        return same_list(t, place + 2, &v, 0);
+        return same_list(t, place + 3, &v, 0);
     }
-    same_list(t, place + 2, &v, job::count(a.header))
+    same_list(t, place + 3, &v, job::count(a.header))
 }
 
 // A byte as a number with a sign.
@@ -210,7 +211,7 @@ fn same_trace(t: &Lines, place: usize, s: State) -> bool
 }
 
 // What differs first, of a frame and the row whose refusal stands at the place. With a refusal the state is
-// idle: it has no rows and no steps, and no readings and no trace are handed out.
+// idle: its scale is 0, it has no rows and no steps, and no readings and no trace are handed out.
 fn difference(t: &Lines, place: usize, frame: &[u8]) -> Part
     requires { ⌜ place ≤ 12000 ⌝ }
 {
@@ -221,12 +222,15 @@ fn difference(t: &Lines, place: usize, frame: &[u8]) -> Part
     if !says(t, place + 1, l.row) {
         return Part::Row;
     }
+    if !says(t, place + 2, l.state.scale) {
+        return Part::Scale;
+    }
     if !same_numbers(t, place, frame) {
         return Part::Numbers;
     }
     let a = emethod::advance(l.state, 60);
     let s = a.state;
-    let readings = past_same_digits(t, past(t, place + 2), &s.digits, s.header.n, s.k);
+    let readings = past_same_digits(t, past(t, place + 3), &s.digits, s.header.n, s.k);
     if readings == 0 {
         return Part::Digits;
     }
@@ -282,6 +286,7 @@ fn report(number: usize, d: Part) -> u64
         Part::Nothing => 0,
         Part::Refusal => differs(number, b"refusal"),
         Part::Row => differs(number, b"row"),
+        Part::Scale => differs(number, b"scale"),
         Part::Numbers => differs(number, b"numbers"),
         Part::Digits => differs(number, b"digits"),
         Part::Readings => differs(number, b"readings"),

@@ -101,5 +101,5 @@ value-G =
 
 -- every part of what is said of G is used: 16 is above 0, and there is a solution with D above 0, in which
 -- 16 N is 8 D
-used-G : (pos 0 <ℤ pos 16) × (0 < value-G .scale) × (pos 16 *ℤ value-G .solution 0 ≡ pos 8 *ℤ pos (value-G .scale))
-used-G = (value-G .denominator-positive, value-G .scale-positive, value-G .value (value-G .solution) (value-G .scale) (value-G .solved))
+used-G : (pos 0 <ℤ pos 16) × (0 < value-G .solution-under) × (pos 16 *ℤ value-G .solution 0 ≡ pos 8 *ℤ pos (value-G .solution-under))
+used-G = (value-G .denominator-positive, value-G .under-positive, value-G .value (value-G .solution) (value-G .solution-under) (value-G .solved))

@@ -30,8 +30,8 @@ rational-value u x p q n unit some short =
       denominator-positive = positive;
       value = in-each;
       solution = top;
-      scale = bottom;
-      scale-positive = abs-positive bottom-positive;
+      solution-under = bottom;
+      under-positive = abs-positive bottom-positive;
       solved = top-solves;
     }
   where

@@ -58,9 +58,9 @@ pub record CurveValue (n u : ℕ) (G : ℕ → ℕ → ℤ) (B : ℕ → ℤ) (P
   pub value : (N : ℕ → ℤ) (D : ℕ) → Solves n u D G B N → Q *ℤ N 0 ≡ P *ℤ pos D
   -- there is a solution
   pub solution : ℕ → ℤ
-  pub scale : ℕ
-  pub scale-positive : 0 < scale
-  pub solved : Solves n u scale G B solution
+  pub solution-under : ℕ
+  pub under-positive : 0 < solution-under
+  pub solved : Solves n u solution-under G B solution
 
 -- Every row weighs at most 1/4, as a light row does. At order 1 the matrix is 0, whatever x is.
 abbrev pub ShortRows : (n u : ℕ) (G : ℕ → ℕ → ℤ) → Type 0

@@ -17,7 +17,7 @@ use Rattle.evaluator.proofs.Theorems.{accepted-load}
 use Rattle.trace.specs.Trace.{record-answer, trace-writer-answer, trace-writer-buffer}
 use Rattle.trace.specs.declared.Recorded.{Recorded}
 use Rattle.trace.specs.declared.TraceWritten.{TraceWritten}
-use Rattle.emethod_c.specs.Foreign.{answer-of, check-answer, job-record, job-trace-answer, job-trace-buffer}
+use Rattle.emethod_c.specs.Foreign.{answer-of, scaled-answer-of, check-answer, job-record, job-trace-answer, job-trace-buffer}
 
 module _ (frame : List ℕ) (l : Loaded) (e : l ≡ loaded frame) where
   -- of a refused frame
@@ -25,7 +25,7 @@ module _ (frame : List ℕ) (l : Loaded) (e : l ≡ loaded frame) where
     some : loaded frame .refusal ≡ 0 → ⊥
     some z = let f : l .refusal ≡ 0 = ap (λ (x : Loaded). x .refusal) e ∙ z in omega arith
 
-    pub check-refused : (r : ℕ) → r ≡ answer-of (l .refusal) (l .row) 0 → r ≡ check-answer frame
+    pub check-refused : (r : ℕ) → r ≡ scaled-answer-of (l .refusal) (l .row) 0 0 → r ≡ check-answer frame
     unfolding check-answer
     check-refused r f = f ∙ rw (e, ne-eqb (loaded frame .refusal) 0 some)
 
@@ -47,9 +47,12 @@ module _ (frame : List ℕ) (l : Loaded) (e : l ≡ loaded frame) where
     unfolding loaded
     order-most = rw header-is (accepted-frame frame .0 none .valid .limits .order-most)
 
-    pub check-accepted : (c r : ℕ) → c ≡ count (l .state .header) → r ≡ answer-of 0 0 c → r ≡ check-answer frame
+    pub check-accepted : (c r : ℕ) → c ≡ count (l .state .header) → r ≡ scaled-answer-of 0 0 c (l .state .scale) → r ≡ check-answer frame
     unfolding check-answer loaded
-    check-accepted c r f g = let z : frame-refusal frame ≡ 0 = none in g ∙ rw (f, header-is, z)
+    check-accepted c r f g =
+        let z : frame-refusal frame ≡ 0 = none in
+        let s : l .state .scale ≡ loaded frame .state .scale = ap (λ (x : Loaded). x .state .scale) e in
+        g ∙ rw (f, header-is, s, z)
 
     pub job-trace-accepted : (budget : ℕ) (a : Advanced) (c : Recorded) (w : TraceWritten) (r : ℕ) (out left : List ℕ)
         → a ≡ advanced (l .state) budget → c ≡ record-answer (a .state) → w ≡ trace-writer-answer (c .trace) (length out) → left ≡ trace-writer-buffer (c .trace) out

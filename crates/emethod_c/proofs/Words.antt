@@ -16,25 +16,21 @@ use mir.Val.{toZ, ofZ}
 use Rattle.integers.specs.Flat.{at, list-from}
 use Rattle.job.specs.Header.{Limits}
 use Rattle.job.proofs.Refusal.{decided, refused-before, accepted-before}
-use Rattle.job.proofs.Limits.{digit-small, steps-small, trace-small}
-use Rattle.job.specs.Rules.{trace-steps}
+use Rattle.job.proofs.Limits.{digit-small, steps-small}
 use Rattle.job.specs.declared.Header.{Header}
 use Rattle.trace.specs.Trace.{digit-list, trace-checks, trace-refusal, trace-record, trace-reader-answer}
 use Rattle.trace.proofs.Digits.{length-digit-list, digit-list-more, sets-append}
 use Rattle.trace.specs.Inner.{digits-from}
 use Rattle.integers.proofs.Machine.{i8-kept}
 use Rattle.trace.proofs.Storing.{store-turn}
-use Rattle.trace.proofs.Valid.{trace-accepted}
+use Rattle.trace.proofs.Valid.{record-steps-most, trace-accepted}
 use Rattle.trace.specs.declared.Recorded.{Recorded}
 use Rattle.emethod_c.specs.Foreign.{answer-of, header-words, words-of, word-count, trace-word-count, words-checks, words-refusal, words-answer, words-left, most-words, WordsEnough, WordsDecided}
 
 -- ---- the words of a trace
 
 module _ (h : Header) (k : ℕ) where
-  module _ (l : Limits h) (m : k ≤ trace-steps h) where
-    pub k-most : k ≤ 60
-    k-most = omega (arith, trace-small h l)
-
+  module _ (l : Limits h) (k-most : k ≤ 60) where
     small : (i : ℕ) → getD (header-words h k) i 0 ≤ 60
     small zero = omega (arith, l .kind-most)
     small (suc zero) = omega (arith, l .code-most)
@@ -110,7 +106,7 @@ words-turn ds w out left n j to p q e f =
 pub words-enough : WordsEnough
 words-enough s e =
     let v = trace-accepted s .0 e .valid in
-    word-count-most (trace-record s .header) (trace-record s .k) (v .limits) (v .steps)
+    word-count-most (trace-record s .header) (trace-record s .k) (v .limits) (record-steps-most v)
 
 -- the checks decide
 pub words-decided : WordsDecided
@@ -141,8 +137,8 @@ module _ (s : List ℕ) (c : Recorded) (e : c ≡ trace-reader-answer s) where
     pub words-limits : Limits (c .trace .header)
     words-limits = rw trace-is (trace-accepted s .0 none .valid .limits)
 
-    pub words-steps : c .trace .k ≤ trace-steps (c .trace .header)
-    words-steps = rw trace-is (trace-accepted s .0 none .valid .steps)
+    pub words-steps : c .trace .k ≤ 60
+    words-steps = rw trace-is (record-steps-most (trace-accepted s .0 none .valid))
 
     pub words-most : word-count (c .trace .header) (c .trace .k) ≤ most-words
     words-most = rw trace-is (words-enough s none)

@@ -10,27 +10,32 @@ use Rattle.evaluator.specs.Evaluator.{loaded, advanced}
 use Rattle.trace.specs.{Trace.digit-list, Trace.trace-checks, Trace.trace-refusal, Trace.trace-record, Trace.record-answer, Trace.trace-writer-answer, Trace.trace-writer-buffer, declared.Record.Record, declared.TraceWritten.TraceWritten}
 use Rattle.accuracy.specs.{Promise.Promise, declared.Evaluated.Evaluated}
 
--- ---- answers: a refusal, a row and a count in one number
+-- ---- answers: a refusal, a row and a count in one number, and of a loaded frame its scale too
 
--- a count goes with no refusal only
-abbrev pub accepted-count : (refusal count : ℕ) → ℕ
-accepted-count refusal count = cond (eqb refusal 0) count 0
+-- a count and a scale go with no refusal only
+abbrev pub if-accepted : (refusal number : ℕ) → ℕ
+if-accepted refusal number = cond (eqb refusal 0) number 0
 
 -- 8 bits for the refusal, 8 for the row, 40 for the count
 abbrev pub answer-of : (refusal row count : ℕ) → ℕ
-answer-of refusal row count = refusal % 256 + 256 * (row % 256) + 65536 * (accepted-count refusal count % 2 ^ 40)
+answer-of refusal row count = refusal % 256 + 256 * (row % 256) + 65536 * (if-accepted refusal count % 2 ^ 40)
 
--- ---- em_check_frame: how many numbers a frame that loads has
+-- and 8 for the scale
+abbrev pub scaled-answer-of : (refusal row count scale : ℕ) → ℕ
+scaled-answer-of refusal row count scale = answer-of refusal row count + 2 ^ 56 * (if-accepted refusal scale % 256)
+
+-- ---- em_check_frame: how many numbers a frame that loads has, and its scale
 
 unfoldable pub check-answer : (frame : List ℕ) → ℕ
-check-answer frame = answer-of (loaded frame .refusal) (loaded frame .row) (count (header-of frame))
+check-answer frame =
+    scaled-answer-of (loaded frame .refusal) (loaded frame .row) (count (header-of frame)) (loaded frame .state .scale)
 
 -- ---- em_evaluate: the promise of `evaluate` for one advance. The count is the steps made
 
 pub record Evaluates (frame : List ℕ) (budget : ℕ) (given : List ℤ) (r : ℕ) (left : List ℤ) : Type 0 where
   pub evaluated : Evaluated
   pub promise : Promise frame (budget ∷ []) given evaluated left
-  pub answer : r ≡ answer-of (evaluated .refusal) (evaluated .row) (evaluated .made)
+  pub answer : r ≡ scaled-answer-of (evaluated .refusal) (evaluated .row) (evaluated .made) (evaluated .scale)
 
 -- ---- em_write_frame: what the frame writer answers and leaves. The count is the frame's bytes
 

@@ -1,6 +1,7 @@
 // The library for host tools in other languages: functions over numbers and lent memory, built by
 // `rt staticlib emethod_c`. emethod.h beside this crate's src/ declares them for C. Each answers one number
-// that carries the refusal, the row and a count, and asks nothing of its caller.
+// that carries the refusal, the row, a count and, of a frame that it loads, the scale, and asks nothing of
+// its caller.
 ghost use mathlib.Core.Path.{_≡_};
 ghost use mathlib.Core.List.{_++_, map};
 ghost use Prim.Native.Nat.{_+_, _<_, _≤_};
@@ -8,32 +9,41 @@ ghost use lib.IntN.{pos};
 ghost use lib.ListN.{length, getD, drop};
 ghost use lib.Seq.{sets};
 ghost use Rattle.job.specs.Header.{Limits};
-ghost use Rattle.job.specs.Rules.{trace-steps};
 ghost use Rattle.frame.specs.Frame.{frame-writer-answer, frame-writer-buffer};
 ghost use Rattle.trace.specs.Inner.{digits-from};
-ghost use Rattle.state.specs.State.{digit-places};
-ghost use Rattle.emethod_c.specs.Foreign.{accepted-count, answer-of, check-answer, Evaluates, header, frame-answer, job-trace-answer, job-trace-buffer, header-words, words-of, word-count, words-answer, words-left, most-words};
+ghost use Rattle.state.specs.State.{all-steps, digit-places};
+ghost use Rattle.emethod_c.specs.Foreign.{if-accepted, answer-of, scaled-answer-of, check-answer, Evaluates, header, frame-answer, job-trace-answer, job-trace-buffer, header-words, words-of, word-count, words-answer, words-left, most-words};
 use job::Header;
 use job::ROWS;
 use state::DIGITS;
 
-const FIELD: usize = 256; // the refusal and the row have 8 bits each in an answer
+const FIELD: usize = 256; // the refusal, the row and the scale have 8 bits each in an answer
 
-const COUNTS: usize = 1099511627776; // 2^40: the count has the 40 bits above them
+const COUNTS: usize = 1099511627776; // 2^40: the count has the 40 bits above the refusal and the row
 
-// The count where there is no refusal, else 0.
-fn accepted_count(refusal: usize, count: usize) -> usize
-    ensures { λ r. ⌜ r ≡ accepted-count refusal count ⌝ }
+const SCALES: u64 = 72057594037927936; // 2^56: the scale has the 8 bits above the count
+
+// The number where there is no refusal, else 0.
+fn if_accepted(refusal: usize, number: usize) -> usize
+    ensures { λ r. ⌜ r ≡ if-accepted refusal number ⌝ }
 {
-    if refusal == 0 { count } else { 0 }
+    if refusal == 0 { number } else { 0 }
 }
 
 // The three numbers in one.
 fn answer(refusal: usize, row: usize, count: usize) -> u64
     ensures { λ r. ⌜ r ≡ answer-of refusal row count ⌝ }
 {
-    let accepted = accepted_count(refusal, count);
+    let accepted = if_accepted(refusal, count);
     (refusal % FIELD + FIELD * (row % FIELD) + FIELD * FIELD * (accepted % COUNTS)) as u64
+}
+
+// The four numbers in one.
+fn scaled_answer(refusal: usize, row: usize, count: usize, scale: usize) -> u64
+    ensures { λ r. ⌜ r ≡ scaled-answer-of refusal row count scale ⌝ }
+{
+    let accepted = if_accepted(refusal, scale);
+    answer(refusal, row, count) + SCALES * ((accepted % FIELD) as u64)
 }
 
 // Loads a frame and lets it go.
@@ -43,9 +53,9 @@ pub extern "C" fn em_check_frame(frame: &[u8]) -> u64
 {
     let l = evaluator::load(frame);
     if 0 < l.refusal {
-        return answer(l.refusal, l.row, 0);
+        return scaled_answer(l.refusal, l.row, 0, 0);
     }
-    answer(0, 0, job::count(l.state.header))
+    scaled_answer(0, 0, job::count(l.state.header), l.state.scale)
 }
 
 // Loads a frame, advances it by the budget, and writes a reading for each row.
@@ -55,7 +65,7 @@ pub extern "C" fn em_evaluate(frame: &[u8], budget: u64, readings: &mut [i64]) -
 {
     let budgets = [budget; 1];
     let e = accuracy::evaluate(frame, &budgets, readings);
-    answer(e.refusal, e.row, e.made)
+    scaled_answer(e.refusal, e.row, e.made, e.scale)
 }
 
 // Writes a frame of the fields and the numbers.
@@ -116,7 +126,7 @@ fn header_word(h: Header, k: usize, i: usize) -> usize
 
 // Puts the first seven words of a trace into the list; the words past them stay.
 fn put_header_words(h: Header, k: usize, words: &mut [i64])
-    requires { ⌜ Limits h × (k ≤ trace-steps h) × (7 ≤ length (now words)) ⌝ }
+    requires { ⌜ Limits h × (k ≤ all-steps) × (7 ≤ length (now words)) ⌝ }
     ensures { λ _. ⌜ now (words .exit) ≡ sets (now (words .entry)) 0 (map pos (header-words h k)) ⌝ }
 {
     let mut i: usize = 0;
@@ -145,7 +155,7 @@ fn put_step_words(d: &[i8; DIGITS], from: usize, n: usize, words: &mut [i64], to
 // Puts the words of a record into the list, the digits step by step and in a step row by row; the words
 // past them stay.
 fn put_words(h: Header, k: usize, d: &[i8; DIGITS], words: &mut [i64])
-    requires { ⌜ Limits h × (k ≤ trace-steps h) × (word-count h k ≤ length (now words)) ⌝ }
+    requires { ⌜ Limits h × (k ≤ all-steps) × (word-count h k ≤ length (now words)) ⌝ }
     ensures { λ _. ⌜ now (words .exit) ≡ words-of h k (now (d .entry)) ++ drop (word-count h k) (now (words .entry)) ⌝ }
 {
     put_header_words(h, k, words);

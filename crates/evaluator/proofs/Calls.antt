@@ -7,11 +7,13 @@ use mathlib.Core.Logic.{_⊎_, inl, inr}
 use Prim.Native.Nat.{ℕ, _-_, _<_, _≤_}
 use native.Mathlib.Omega.{arith}
 use borrow.Author.Tests.{lt-ltb, le-ltb, le-leb, lt-leb, eq-eqb, ne-eqb}
-use lib.Dec.{T, ltb, nleb→lt, nltb→le, leb}
+use lib.Dec.{T, ltb, nleb→lt, nltb→le}
 use lib.IntN.{ℤ}
 use lib.ListN.{length, drop}
 use Rattle.integers.specs.Flat.{list-from}
 use Rattle.integers.proofs.Maximum.{le-or-lt}
+use Rattle.job.specs.Header.{Limits}
+use Rattle.job.specs.Rules.{ScaleLimits}
 use Rattle.job.specs.Refusal.{Check, first-refusal, None, none, also}
 use Rattle.job.proofs.Refusal.{numbered, accepted-exactly, refused-before, accepted-before}
 use Rattle.state.specs.State.{PassesLimits, state-checks, state-last}
@@ -38,30 +40,34 @@ smaller-most a b = by-order (le-or-lt a b)
     by-order (inl l) = rw (le-leb a b l) l
     by-order (inr l) = rw (lt-leb a b l) (omega arith)
 
-module _ (s : State) (budget bad last refusal : ℕ) (checked : bad ≡ first-refusal (state-checks s)) (end : last ≡ state-last s)
-    (answer : refusal ≡ cond (ltb 0 bad) bad (first-refusal ((22, no-budget budget) ∷ (21, leb last (s .k)) ∷ []))) where
+-- a state that has no number is within the limits of its header and its scale
+pub unrefused-limits : (s : State) (bad : ℕ) → bad ≡ first-refusal (state-checks s) → bad ≡ 0 → Limits (s .header) × ScaleLimits (s .header) (s .scale)
+unrefused-limits s bad e z = let p = passes-exactly s .0 (sym e ∙ z) .1 in (p .limits, p .scaled)
+
+module _ (s : State) (budget bad refusal : ℕ) (checked : bad ≡ first-refusal (state-checks s))
+    (answer : refusal ≡ cond (ltb 0 bad) bad (first-refusal ((22, no-budget budget) ∷ (21, all-made s) ∷ []))) where
   refusal-is : refusal ≡ advance-refusal s budget
   unfolding advance-checks
-  refusal-is = (rw end at answer) ∙ refused-then (state-checks s) ((22, no-budget budget) ∷ (21, all-made s) ∷ []) bad tt checked
+  refusal-is = answer ∙ refused-then (state-checks s) ((22, no-budget budget) ∷ (21, all-made s) ∷ []) bad tt checked
 
   pub advance-refuses : (refusal ≡ 0 → ⊥) → record { refusal = refusal; made = 0; state = s } ≡ advanced s budget
   unfolding advanced steps-made steps
   advance-refuses h = rw (← refusal-is, ne-eqb refusal 0 h)
 
-  pub advance-makes : (made : ℕ) (t : State) → refusal ≡ 0 → made ≡ smaller budget (last - s .k) → t ≡ steps s made
+  pub advance-makes : (last made : ℕ) (t : State) → refusal ≡ 0 → last ≡ state-last s → made ≡ smaller budget (last - s .k) → t ≡ steps s made
       → record { refusal = refusal; made = made; state = t } ≡ advanced s budget
   unfolding advanced steps-made
-  advance-makes made t h em et = rw (← refusal-is, eq-eqb refusal 0 h, ← (rw end at em)) (ap (λ (t : State). record { refusal = refusal; made = made; state = t }) et)
+  advance-makes last made t h end em et = rw (← refusal-is, eq-eqb refusal 0 h, ← (rw end at em)) (ap (λ (t : State). record { refusal = refusal; made = made; state = t }) et)
 
   -- where nothing is refused the state is busy and passes its limits, and steps are left
-  pub advance-takes : refusal ≡ 0 → (s .busy ≡ true) × PassesLimits s × (s .k < last)
+  pub advance-takes : refusal ≡ 0 → (s .busy ≡ true) × PassesLimits s × (s .k < state-last s)
   unfolding advance-checks
   advance-takes h = takes (accepted-exactly (advance-checks s budget) tt .0 (sym refusal-is ∙ h))
     where
-      takes : None (advance-checks s budget) → (s .busy ≡ true) × PassesLimits s × (s .k < last)
+      takes : None (advance-checks s budget) → (s .busy ≡ true) × PassesLimits s × (s .k < state-last s)
       takes (also idle (also broken (also none-left (also made none)))) =
           let p = passes-exactly s .0 (accepted-exactly (state-checks s) tt .1 (also idle (also broken none))) in
-          (p .0, p .1, rw end (nleb→lt (state-last s) (s .k) made))
+          (p .0, p .1, nleb→lt (state-last s) (s .k) made)
 
 -- ---- readings
 

@@ -12,6 +12,7 @@ use Rattle.bitfields.specs.Layout.{field, number, bits, values-from}
 use Rattle.bitfields.specs.Twos.{decode}
 use Rattle.system.specs.Rows.{first-row-from}
 use Rattle.system.specs.System.{curve-entry, matrix, right-side}
+use Rattle.scale.specs.Scale.{every}
 use Rattle.frame.specs.Frame.{frame-checks}
 use Rattle.stepping.specs.Steps.{stepped-digits, stepped-residuals, steps, one-step}
 use Rattle.recurrence.specs.Recurrence.{shifted, next-digit, next-residual, reading, select, digit-size}
@@ -44,13 +45,13 @@ lengths-A = record { residuals = refl; digits = refl }
 
 after-A : (advanced job-A 3 .refusal ≡ 0) × (advanced job-A 3 .made ≡ 3) × (advanced (advanced job-A 3 .state) 9 .made ≡ 1)
     × (advanced (advanced job-A 3 .state) 9 .state .header .n ≡ 2)
-unfolding job-A advanced advance-checks steps-made steps one-step fresh breaks-limit beyond curve-entry matrix right-side first-row-from weight total dot sum list-from stores stepped-digits stepped-residuals shifted next-digit next-residual select digit-size
+unfolding job-A advanced advance-checks steps-made steps one-step fresh breaks-limit beyond curve-entry matrix right-side first-row-from every weight total dot sum list-from stores stepped-digits stepped-residuals shifted next-digit next-residual select digit-size
 after-A = (refl, refl, refl, refl)
 
 last-A : (entry (advanced (advanced job-A 3 .state) 9 .state .digits) 3 0 ≡ negsuc 0)
     × (readings-list (advanced job-A 3 .state) (pos 9 ∷ pos 9 ∷ pos 9 ∷ []) ≡ pos 3 ∷ pos 4 ∷ pos 9 ∷ [])
     × (readings-refusal (advanced job-A 3 .state) 1 ≡ 23)
-unfolding job-A advanced advance-checks steps-made steps one-step readings-checks readings-list fresh breaks-limit beyond curve-entry matrix right-side first-row-from weight total dot sum list-from stores stepped-digits stepped-residuals shifted next-digit next-residual select digit-size reading
+unfolding job-A advanced advance-checks steps-made steps one-step readings-checks readings-list fresh breaks-limit beyond curve-entry matrix right-side first-row-from every weight total dot sum list-from stores stepped-digits stepped-residuals shifted next-digit next-residual select digit-size reading
 last-A = (refl, refl, refl)
 
 -- ---- and from the statements, of the other
@@ -87,7 +88,7 @@ module _ (keeps : AdvanceKeeps) where
 module _ (zeros : LoadZeros) where
   -- load leaves 0 there
   zero-A : (entry (loaded frame-A .state .g) 2 0 ≡ pos 0) × (at (loaded frame-A .state .z) 2 ≡ pos 0) × (entry (loaded frame-A .state .digits) 0 2 ≡ pos 0)
-  unfolding frame-A loaded fresh frame-checks field number bits values-from decode curve-entry matrix right-side first-row-from weight total
+  unfolding frame-A loaded fresh frame-checks field number bits values-from decode curve-entry matrix right-side first-row-from every weight total
   zero-A =
       let x = zeros frame-A in
       (x .matrix 2 0 (omega arith) (omega arith) (inl (omega arith)), x .residuals 2 (omega arith) (omega arith), x .digits 0 2 (omega arith) (omega arith) (omega arith))

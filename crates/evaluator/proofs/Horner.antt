@@ -3,19 +3,19 @@
 use mathlib.Core.Path.{_≡_, refl, ap₂, _∙_}
 use mathlib.Core.List.{List}
 use Prim.Native.Nat.{ℕ, zero, suc, _+_, _*_, _-_, _^_, _<_, _≤_}
-use native.Mathlib.Nat.{pow-zero, pow-succ', pow-le-pow-right, mul-le-mul-left}
+use native.Mathlib.Nat.{pow-zero, pow-succ', pow-le-pow-right, mul-le-mul-left, mul-le-mul-right}
 use native.Mathlib.Numerals.{add-one}
 use native.Mathlib.Omega.{arith}
 use lib.IntN.{ℤ, pos, natAbs, _+ℤ_, _*ℤ_}
-use lib.Pow.{pow-add, pow-mono}
+use lib.Pow.{pow-mono}
 use mir.Syntax.{w8, w64}
 use mir.Val.{SFits, toZ, ofZ}
 use Rattle.integers.proofs.Absolute.{abs-add, abs-mul}
 use Rattle.integers.specs.Flat.{entry}
+use Rattle.integers.proofs.Power.{pow-pow}
 use Rattle.integers.proofs.Machine.{Machine, known, bounded, cast-is, read-i8, read-i64, machine-add, machine-fits, machine-eq}
 use Rattle.job.specs.Header.{digit-bits, radix}
-use Rattle.job.specs.Rules.{last-step}
-use Rattle.job.proofs.Limits.{radix-least, radix-most, last-bits, last-small}
+use Rattle.job.proofs.Limits.{radix-least, radix-most, few-digits}
 use Rattle.job.specs.declared.Header.{Header}
 use Rattle.recurrence.specs.Recurrence.{reading}
 use Rattle.state.specs.State.{digits-of, PassesLimits}
@@ -28,25 +28,23 @@ reading-zero r d i = refl
 
 -- ---- the rows of a state that passes its limits may be read
 
-power : (a k : ℕ) → (2 ^ a) ^ k ≡ 2 ^ (a * k)
-power a zero = let e : a * 0 ≡ 0 = omega arith in rw (pow-zero (2 ^ a), e)
-power a (suc k) = let e : a * suc k ≡ a + a * k = omega arith in rw (pow-succ' (2 ^ a) k, e, power a k, pow-add 2 a (a * k))
-
-fewer : (m k w : ℕ) → m * w ≤ 60 → k ≤ m → w * k ≤ 60
-fewer m k w h l = omega (arith, mul-le-mul-left w l)
-
 pub may-read-rows : {s : State} → PassesLimits s → MayReadRows (s .header) (s .k) (s .digits)
-may-read-rows p = record { limits = p .limits; steps = p .steps; made = p .made }
+may-read-rows {s} p =
+    record {
+      limits = p .limits;
+      bits = omega (arith, mul-le-mul-right (digit-bits (s .header .code)) (p .steps), p .scaled .last-most);
+      made = p .made;
+    }
 
 pub may-read : {h : Header} {k : ℕ} {ds : List ℤ} → MayReadRows h k ds → (i r : ℕ) → i < h .n → r ≡ radix (h .code) → MayRead ds i k r
 may-read {h} {k} p i r l e =
     rw e
     (record {
       row = omega (arith, p .limits .order-most);
-      steps = omega (arith, p .steps, last-small h (p .limits));
+      steps = few-digits k (h .code) (p .bits);
       radix-least = omega (arith, radix-least h (p .limits));
       radix-most = radix-most h (p .limits);
-      room = rw (power (digit-bits (h .code)) k) (pow-mono (fewer (last-step h) k (digit-bits (h .code)) (last-bits h (p .limits)) (p .steps)));
+      room = rw (pow-pow 2 (digit-bits (h .code)) k) (pow-mono (p .bits));
       digits = λ t m. omega (arith, p .made t i m l, p .limits .digit-most);
     })
 

@@ -35,16 +35,16 @@ load-short s z u y e =
     let c = unpack-refusal s z u in
     e ∙ rw c (refuses s (layout-verdict s (rw c at y)) (rw c at y))
 
--- refused by 8 or 9, or loaded
+-- refused by 8 or 15, or loaded
 module _ {s : List ℕ} {j : Job} {v : List ℤ} (k : JobRead s j v) where
   pub load-refuses : 0 < j .refusal → {r : Loaded} → r ≡ record { refusal = j .refusal; row = j .row; state = idle-state } → r ≡ loaded s
   load-refuses y e = e ∙ refuses s (k .verdict) y
 
   module _ (y : j .refusal ≤ 0) (h : Header) (e : j .header ≡ h) where
-    fresh-made : record { busy = true; header = h; k = 0; g = j .g; z = j .z; digits = replicate 960 (pos 0) } ≡ fresh (header-of s) (frame-numbers s)
+    fresh-made : record { busy = true; header = h; scale = j .scale; k = 0; g = j .g; z = j .z; digits = replicate 960 (pos 0) } ≡ fresh (header-of s) (frame-numbers s)
     unfolding fresh
-    fresh-made = let o = job-system k y in rw (o .matrix, o .right-sides, sym e ∙ o .header)
+    fresh-made = let o = job-system k y in rw (o .matrix, o .right-sides, o .scale, sym e ∙ o .header)
 
-    pub load-makes : record { refusal = 0; row = 0; state = record { busy = true; header = h; k = 0; g = j .g; z = j .z; digits = replicate 960 (pos 0) } } ≡ loaded s
+    pub load-makes : record { refusal = 0; row = 0; state = record { busy = true; header = h; scale = j .scale; k = 0; g = j .g; z = j .z; digits = replicate 960 (pos 0) } } ≡ loaded s
     unfolding loaded
     load-makes = let c : frame-refusal s ≡ 0 = omega (arith, job-refusal k) in rw (c, fresh-made)

@@ -22,7 +22,7 @@ use Rattle.job.specs.Refusal.{Check, first-refusal}
 use Rattle.job.proofs.Refusal.{refused-before}
 use Rattle.system.specs.System.{matrix-of, right-side-of}
 use Rattle.job.specs.declared.Header.{Header}
-use Rattle.stepping.specs.Steps.{stepped-digits, stepped-residuals, last-digits, chosen-digits, residuals-left, one-step, steps}
+use Rattle.stepping.specs.Steps.{finer, stepped-digits, stepped-residuals, last-digits, chosen-digits, residuals-left, one-step, steps}
 use Rattle.recurrence.specs.Recurrence.{shifted, next-digit, next-residual, reading, select}
 use Rattle.stepping.proofs.Stepped.{filled-ext, length-stepped-residuals, stepped-residual-past}
 use Rattle.header.specs.Header.{header-of}
@@ -74,17 +74,17 @@ load-zeros bytes = by-case (le-or-lt (loaded bytes .refusal) 0)
 
 -- ---- one step of arrays that agree below n; d and d′ are the digits of the step before
 
-module _ (n r p u : ℕ) (g g′ z z′ : List ℤ) {d d′ : List ℤ} (eg : (i j : ℕ) → i < n → j < n → entry g i j ≡ entry g′ i j) (ez : (i : ℕ) → i < n → at z i ≡ at z′ i)
+module _ (n r c p u : ℕ) (g g′ z z′ : List ℤ) {d d′ : List ℤ} (eg : (i j : ℕ) → i < n → j < n → entry g i j ≡ entry g′ i j) (ez : (i : ℕ) → i < n → at z i ≡ at z′ i)
     (ed : d ≡ d′) where
-  shifted-alike : (i : ℕ) → i < n → shifted n r (entry g) (at z) (at d) i ≡ shifted n r (entry g′) (at z′) (at d′) i
+  shifted-alike : (i : ℕ) → i < n → shifted n r (finer c (entry g)) (at z) (at d) i ≡ shifted n r (finer c (entry g′)) (at z′) (at d′) i
   unfolding shifted
-  shifted-alike i l = rw (ed, ez i l, dot-ext n (entry g i) (entry g′ i) (at d′) (at d′) (λ j m. eg i j l m) (λ j m. refl))
+  shifted-alike i l = rw (ed, ez i l, dot-ext n (finer c (entry g) i) (finer c (entry g′) i) (at d′) (at d′) (λ j m. rw (eg i j l m)) (λ j m. refl))
 
-  digits-alike : stepped-digits n r p u g z d ≡ stepped-digits n r p u g′ z′ d′
+  digits-alike : stepped-digits n r c p u g z d ≡ stepped-digits n r c p u g′ z′ d′
   unfolding stepped-digits next-digit
   digits-alike = filled-ext _ _ _ n (λ i l. ap (λ (w : ℤ). select p u w) (shifted-alike i l))
 
-  residuals-alike : length z ≡ length z′ → (i : ℕ) → i < n → at (stepped-residuals n r p u g z d) i ≡ at (stepped-residuals n r p u g′ z′ d′) i
+  residuals-alike : length z ≡ length z′ → (i : ℕ) → i < n → at (stepped-residuals n r c p u g z d) i ≡ at (stepped-residuals n r c p u g′ z′ d′) i
   unfolding stepped-residuals next-residual next-digit
   residuals-alike size i l =
       stores-alike z z′ (λ i. i) _ _ n i size (λ t m. ap (λ (w : ℤ). w -ℤ pos u *ℤ select p u w) (shifted-alike t m)) (ez i l)
@@ -103,13 +103,13 @@ module _ {s t : State} (e : SameBelow s t) (l : s .k ≤ all-steps) where
 
   chosen-alike : chosen-digits s ≡ chosen-digits t
   chosen-alike =
-      rw (← e .header, ← e .steps)
-      (digits-alike n _ _ _ (s .g) (t .g) (s .z) (t .z) (e .matrix) (e .residuals) (before-alike n (s .k) (s .digits) (t .digits) l (e .digits)))
+      rw (← e .header, ← e .scale, ← e .steps)
+      (digits-alike n _ _ _ _ (s .g) (t .g) (s .z) (t .z) (e .matrix) (e .residuals) (before-alike n (s .k) (s .digits) (t .digits) l (e .digits)))
 
   left-alike : length (s .z) ≡ length (t .z) → (i : ℕ) → i < n → at (residuals-left s) i ≡ at (residuals-left t) i
   left-alike size i m =
-      rw (← e .header, ← e .steps)
-      (residuals-alike n _ _ _ (s .g) (t .g) (s .z) (t .z) (e .matrix) (e .residuals) (before-alike n (s .k) (s .digits) (t .digits) l (e .digits)) size i m)
+      rw (← e .header, ← e .scale, ← e .steps)
+      (residuals-alike n _ _ _ _ (s .g) (t .g) (s .z) (t .z) (e .matrix) (e .residuals) (before-alike n (s .k) (s .digits) (t .digits) l (e .digits)) size i m)
 
   step-alike : SameLengths s t → SameBelow (one-step s) (one-step t)
   unfolding one-step
@@ -117,6 +117,7 @@ module _ {s t : State} (e : SameBelow s t) (l : s .k ≤ all-steps) where
       record {
         busy = e .busy;
         header = e .header;
+        scale = e .scale;
         steps = ap suc (e .steps);
         matrix = e .matrix;
         residuals = left-alike (size .residuals);
@@ -129,7 +130,7 @@ module _ {s t : State} (e : SameBelow s t) (l : s .k ≤ all-steps) where
   unfolding one-step
   step-lengths size =
       record {
-        residuals = length-stepped-residuals _ _ _ _ (s .g) (s .z) (last-digits s) ∙ size .residuals ∙ sym (length-stepped-residuals _ _ _ _ (t .g) (t .z) (last-digits t));
+        residuals = length-stepped-residuals _ _ _ _ _ (s .g) (s .z) (last-digits s) ∙ size .residuals ∙ sym (length-stepped-residuals _ _ _ _ _ (t .g) (t .z) (last-digits t));
         digits = length-stores (s .digits) _ _ (s .header .n) ∙ size .digits ∙ sym (length-stores (t .digits) _ _ (t .header .n));
       }
 
@@ -151,7 +152,7 @@ step-past s =
     record {
       header = refl;
       matrix = λ i j a b o. refl;
-      residuals = λ i l o. sym (stepped-residual-past (s .header .n) _ _ _ (s .g) (s .z) (last-digits s) i o);
+      residuals = λ i l o. sym (stepped-residual-past (s .header .n) _ _ _ _ (s .g) (s .z) (last-digits s) i o);
       digits = λ j i m l o. sym (stores-other (s .digits) (λ i. 16 * s .k + i) _ (s .header .n) (16 * j + i) (λ t a e. apart j i t l o a e));
     }
   where
@@ -187,7 +188,7 @@ taken-passes-limits s ys e = passes-exactly s .0 (accepted-first (state-checks s
 
 module _ {s t : State} (budget : ℕ) (e : SameBelow s t) where
   all-made-alike : all-made s ≡ all-made t
-  all-made-alike = rw (e .header, e .steps)
+  all-made-alike = rw (e .header, e .scale, e .steps)
 
   advance-refused-alike : advance-refusal s budget ≡ advance-refusal t budget
   unfolding advance-checks
@@ -196,14 +197,14 @@ module _ {s t : State} (budget : ℕ) (e : SameBelow s t) where
 
   made-alike : steps-made s budget ≡ steps-made t budget
   unfolding steps-made
-  made-alike = rw (advance-refused-alike, e .header, e .steps)
+  made-alike = rw (advance-refused-alike, e .header, e .scale, e .steps)
 
   -- there is room for the steps that are made
   made-room : advance-refusal s budget ≡ 0 → s .k + steps-made s budget ≤ all-steps
   unfolding advanced advance-checks
   made-room z =
       let p = taken-passes-limits s ((22, no-budget budget) ∷ (21, all-made s) ∷ []) z in
-      omega (arith, made-smaller s budget z, smaller-most budget (state-last s - s .k), p .steps, last-small (s .header) (p .limits))
+      omega (arith, made-smaller s budget z, smaller-most budget (state-last s - s .k), p .steps, last-small (s .header) (s .scale) (p .scaled))
 
   alike-after : SameLengths s t
       → SameBelow (advanced s budget .state) (advanced t budget .state) × SameLengths (advanced s budget .state) (advanced t budget .state)
@@ -253,7 +254,7 @@ module _ {s t : State} (e : SameBelow s t) where
       by-case (inl l) =
           let z : readings-refusal s (length out) ≡ 0 = omega arith in
           let p = taken-passes-limits s ((23, readings-list-too-short s (length out)) ∷ []) z in
-          let a : s .k ≤ all-steps = omega (arith, p .steps, last-small (s .header) (p .limits)) in
+          let a : s .k ≤ all-steps = omega (arith, p .steps, last-small (s .header) (s .scale) (p .scaled)) in
           rw (← readings-refused-alike (length out), z, ← e .header, ← e .steps)
           (ap (λ (v : List ℤ). v ++ drop (s .header .n) out)
           (list-from-alike 0 (s .header .n) _ _ (λ i g m. reading-ext (radix (s .header .code)) (digits-of (s .digits)) (digits-of (t .digits)) (s .k) i

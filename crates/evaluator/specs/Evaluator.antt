@@ -12,7 +12,7 @@ use Rattle.state.specs.{State.digits-of, State.idle-state, State.fresh, State.s
 use Rattle.evaluator.specs.{declared.Loaded.Loaded, declared.Advanced.Advanced}
 use Rattle.stepping.specs.Steps.{steps}
 
--- ---- load: refused as the frame is, 1 to 9
+-- ---- load: refused as the frame is, 1 to 8 and 15
 
 unfoldable pub loaded : List ℕ → Loaded
 loaded s =

@@ -6,7 +6,7 @@ use mathlib.Core.{Path._≡_, List.List}
 use Prim.Native.Nat.{ℕ, _+_, _-_, _<_, _≤_}
 use lib.{IntN.ℤ, ListN.length, ListN.take, ListN.drop}
 use Rattle.integers.specs.Flat.{list-from}
-use Rattle.job.specs.{Refusal.Decides, Refusal.first-refusal, Rules.last-step}
+use Rattle.job.specs.Refusal.{Decides, first-refusal}
 use Rattle.header.specs.Header.{header-of}
 use Rattle.frame.specs.Frame.{frame-numbers, frame-checks, frame-refusal}
 use Rattle.state.specs.{State.idle-state, State.fresh, State.state-checks, State.state-last, declared.State.State}
@@ -72,5 +72,5 @@ AdvancedPasses = (s : State) (budget : ℕ) → first-refusal (state-checks s) �
 -- and so does every state that steps make of an accepted frame
 abbrev pub LoadedPasses : Type 0
 LoadedPasses =
-    (s : List ℕ) → frame-refusal s ≡ 0 → (j : ℕ) → j ≤ last-step (header-of s) →
+    (s : List ℕ) → frame-refusal s ≡ 0 → (j : ℕ) → j ≤ state-last (fresh (header-of s) (frame-numbers s)) →
     first-refusal (state-checks (steps (fresh (header-of s) (frame-numbers s)) j)) ≡ 0

@@ -24,7 +24,8 @@ ghost use Prim.Native.Nat.{_<_, _≤_};
 ghost use lib.Dec.{ltb, leb};
 ghost use lib.ListN.{length, drop};
 ghost use Rattle.integers.specs.Flat.{list-from};
-ghost use Rattle.job.specs.Header.{radix};
+ghost use Rattle.job.specs.Header.{radix, Limits};
+ghost use Rattle.job.specs.Rules.{last-step, ScaleLimits};
 ghost use Rattle.job.specs.Refusal.{first-refusal};
 ghost use Rattle.recurrence.specs.Recurrence.{reading};
 ghost use Rattle.state.specs.State.{digits-of, idle-state};
@@ -83,6 +84,7 @@ pub fn load(s: &[u8]) -> Loaded
         state: State {
             busy: true,
             header: h,
+            scale: j.scale,
             k: 0,
             g,
             z,
@@ -91,9 +93,11 @@ pub fn load(s: &[u8]) -> Loaded
     }
 }
 
-// What advance is refused by: the state's number where it has one, then 22 and 21.
-fn advance_refusal(bad: usize, budget: u64, k: usize, last: usize) -> usize
-    ensures { λ r. ⌜ r ≡ cond (ltb 0 bad) bad (first-refusal ((22, no-budget budget) ∷ (21, leb last k) ∷ [])) ⌝ }
+// What advance is refused by: the state's number where it has one, then 22 and 21. A state without a number
+// has a last step; one that breaks a limit may have none that a machine's number holds.
+fn advance_refusal(bad: usize, budget: u64, k: usize, h: Header, scale: usize) -> usize
+    requires { ⌜ (bad ≡ 0 → Limits h × ScaleLimits h scale) ⌝ }
+    ensures { λ r. ⌜ r ≡ cond (ltb 0 bad) bad (first-refusal ((22, no-budget budget) ∷ (21, leb (last-step h scale) k) ∷ [])) ⌝ }
 {
     if 0 < bad {
         return bad;
@@ -101,7 +105,7 @@ fn advance_refusal(bad: usize, budget: u64, k: usize, last: usize) -> usize
     if budget == 0 {
         return 22;
     }
-    if last <= k {
+    if job::last_step(h, scale) <= k {
         return 21;
     }
     0
@@ -120,16 +124,16 @@ pub fn advance(s: State, budget: u64) -> Advanced
 {
     let mut t = s;
     let h = t.header;
+    let scale = t.scale;
     let k = t.k;
-    let bad = state::check(t.busy, h, k, &t.g, &t.z, &t.digits);
-    let last = job::last_step(h);
-    let refusal = advance_refusal(bad, budget, k, last);
+    let bad = state::check(t.busy, h, scale, k, &t.g, &t.z, &t.digits);
+    let refusal = advance_refusal(bad, budget, k, h, scale);
     let mut made: u64 = 0;
     if refusal == 0 {
-        made = smaller(budget, (last - k) as u64);
+        made = smaller(budget, (job::last_step(h, scale) - k) as u64);
         let mut z = t.z;
         let mut digits = t.digits;
-        stepping::make_steps(h, k, made as usize, &t.g, &mut z, &mut digits);
+        stepping::make_steps(h, scale, k, made as usize, &t.g, &mut z, &mut digits);
         t.z = z;
         t.digits = digits;
         t.k = k + made as usize;
@@ -191,7 +195,7 @@ pub fn readings(s: State, out: &mut [i64]) -> usize
     ensures list { λ r. ⌜ now (out .exit) ≡ readings-list s (now (out .entry)) ⌝ }
 {
     let h = s.header;
-    let bad = state::check(s.busy, h, s.k, &s.g, &s.z, &s.digits);
+    let bad = state::check(s.busy, h, s.scale, s.k, &s.g, &s.z, &s.digits);
     let answer = readings_refusal(bad, out.len(), h.n);
     if answer == 0 {
         put_readings(h, s.k, &s.digits, out);

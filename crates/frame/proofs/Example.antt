@@ -15,15 +15,16 @@ use Rattle.bitfields.specs.Twos.{decode, encode, fitsb}
 use Rattle.bitfields.proofs.Writing.{bytes-write}
 use Rattle.job.specs.Header.{count, Limits}
 use Rattle.job.proofs.Limits.{limits-exactly}
-use Rattle.system.specs.Rows.{light-enough, small-enough, first-row-from, FirstRowIs}
-use Rattle.system.specs.System.{matrix, curve-entry, right-side, matrix-of, right-side-of}
+use Rattle.system.specs.Rows.{light-enough, first-row-from, FirstRowIs}
+use Rattle.system.specs.System.{matrix, curve-entry, right-side, matrix-of}
 use Rattle.job.specs.declared.Header.{Header}
+use Rattle.scale.specs.Scale.{every}
 use Rattle.header.specs.Header.{header-of}
 use Rattle.frame.specs.Frame.{frame-fields, frame-length, frame-numbers, frame-checks, frame-refusal, frame-row, frame-reader-answer, frame-reader-list, all-fit, frame-writer-checks, frame-writer-refusal, frame-writer-buffer}
-use Rattle.frame.specs.Theorems.{FrameRowsGiven, FrameRoom, FrameReadWrite, FrameWriteRead}
-use Rattle.frame.proofs.Theorems.{frame-rows, frame-room, frame-read-write, frame-write-read}
+use Rattle.frame.specs.Theorems.{FrameRowsGiven, FrameScale, FrameRoom, FrameReadWrite, FrameWriteRead}
+use Rattle.frame.proofs.Theorems.{frame-rows, frame-scale, frame-room, frame-read-write, frame-write-read}
 
--- the frame of A, its header and its numbers, x, p_0 and p_1; x is 5 in D, and p_0 is 9 in E
+-- the frame of A, its header and its numbers, x, p_0 and p_1; x is 5 in D
 unfoldable pub bytes-A : List ℕ
 bytes-A = 0x01 ∷ 0x10 ∷ 0x44 ∷ 0x10 ∷ 0x32 ∷ 0x00 ∷ []
 
@@ -36,9 +37,6 @@ sent-A = pos 4 ∷ pos 3 ∷ pos 8 ∷ []
 abbrev pub sent-D : List ℤ
 sent-D = pos 5 ∷ pos 3 ∷ pos 8 ∷ []
 
-abbrev pub sent-E : List ℤ
-sent-E = pos 4 ∷ pos 9 ∷ pos 8 ∷ []
-
 -- ---- what the definitions give
 
 spelt-A : write (frame-fields header-A sent-A) ≡ bytes-A
@@ -49,11 +47,11 @@ all-bytes-A : Bytes bytes-A
 all-bytes-A = rw spelt-A at (bytes-write (frame-fields header-A sent-A))
 
 accepted-A : frame-refusal bytes-A ≡ 0
-unfolding bytes-A frame-checks field number bits values-from decode curve-entry matrix right-side first-row-from weight total
+unfolding bytes-A frame-checks field number bits values-from decode curve-entry matrix right-side first-row-from weight total every
 accepted-A = refl
 
 taken-A : frame-writer-refusal header-A sent-A 6 ≡ 0
-unfolding frame-writer-checks all-fit fitsb curve-entry matrix right-side first-row-from weight total
+unfolding frame-writer-checks all-fit fitsb curve-entry matrix right-side first-row-from weight total every
 taken-A = refl
 
 limits-A : Limits header-A
@@ -64,10 +62,13 @@ heavy-D : FirstRowIs 2 (λ i. not (light-enough header-A (weight 2 (matrix-of he
 unfolding curve-entry matrix weight total
 heavy-D = record { inside = omega arith; here = refl; before = record { never = λ j l. absurd (omega (arith, l)) } }
 
--- row 1 of E has the first right-hand side that is too large: twice 9 is above 16
-large-E : FirstRowIs 2 (λ i. not (small-enough header-A (right-side-of header-A sent-E i))) 0
-unfolding right-side
-large-E = record { inside = omega arith; here = refl; before = record { never = λ j l. absurd (omega (arith, l)) } }
+-- E, which is A with p_0 9: its right-hand sides are 9 and 8
+unfoldable pub bytes-E : List ℕ
+bytes-E = 0x01 ∷ 0x10 ∷ 0x44 ∷ 0x10 ∷ 0x92 ∷ 0x00 ∷ []
+
+accepted-E : frame-refusal bytes-E ≡ 0
+unfolding bytes-E frame-checks field number bits values-from decode curve-entry matrix right-side first-row-from weight total every
+accepted-E = refl
 
 -- ---- what the statements give
 
@@ -89,20 +90,20 @@ module _ (holds : FrameWriteRead) where
       (x .accepted, x .header, x .numbers, x .size, x .answer 3 (omega arith), x .list _ (omega arith))
 
 module _ (holds : FrameRowsGiven) where
-  -- row 1 is given with 8 of D and with 9 of E, and 0 with every number above 9
-  rows-A : (frame-row 8 header-A sent-D ≡ 1) × (frame-row 9 header-A sent-E ≡ 1)
-      × ((c : ℕ) → 9 < c → frame-row c header-A sent-D ≡ 0)
-  rows-A = (
-    holds header-A sent-D .heavy 0 .1 heavy-D,
-    holds header-A sent-E .large 0 .1 large-E,
-    λ c l. holds header-A sent-D .others c (λ e. omega (arith, e, l)) (λ e. omega (arith, e, l)),
-  )
+  -- row 1 is given with 8 of D, and 0 with every number above 8
+  rows-A : (frame-row 8 header-A sent-D ≡ 1) × ((c : ℕ) → 8 < c → frame-row c header-A sent-D ≡ 0)
+  rows-A = (holds header-A sent-D .heavy 0 .1 heavy-D, λ c l. holds header-A sent-D .others c (λ e. omega (arith, e, l)))
 
-  -- and a row that is given breaks the rule: 20 and 18 are not at most 16
-  rules-A : (leb 20 16 ≡ false) × (leb 18 16 ≡ false)
-  unfolding curve-entry matrix right-side weight total
-  rules-A =
-      (not-true _ (holds header-A sent-D .heavy 0 .0 (rows-A .0) .here), not-true _ (holds header-A sent-E .large 0 .0 (rows-A .1) .here))
+  -- and a row that is given breaks the rule: 20 is not at most 16
+  rules-A : leb 20 16 ≡ false
+  unfolding curve-entry matrix weight total
+  rules-A = not-true _ (holds header-A sent-D .heavy 0 .0 (rows-A .0) .here)
+
+module _ (holds : FrameScale) where
+  -- the scale of E is 1: twice 9 is at most 32, and 5 steps are at most 60
+  scale-E : (18 ≤ 32) × (5 ≤ 60)
+  unfolding bytes-E field number bits values-from decode right-side every
+  scale-E = let x = holds bytes-E accepted-E in (x .smallest .fit 0 (omega arith), x .limits .last-most)
 
 module _ (holds : FrameRoom) where
   -- A's three numbers and six bytes are within the room that is always enough; the longest frame needs all
@@ -112,5 +113,6 @@ module _ (holds : FrameRoom) where
 
 -- the statements are proved
 pub frames-A : (frame-writer-refusal header-A sent-A 6 ≡ 0) × (frame-numbers bytes-A ≡ sent-A)
-    × (frame-row 8 header-A sent-D ≡ 1) × (count header-A ≤ 272)
-frames-A = (frame-read-write-A frame-read-write .1, frame-write-read-A frame-write-read .2, rows-A frame-rows .0, room-A frame-room .0)
+    × (frame-row 8 header-A sent-D ≡ 1) × (18 ≤ 32) × (count header-A ≤ 272)
+frames-A =
+    (frame-read-write-A frame-read-write .1, frame-write-read-A frame-write-read .2, rows-A frame-rows .0, scale-E frame-scale .0, room-A frame-room .0)

@@ -15,14 +15,17 @@ use Rattle.job.specs.Header.{count, Limits}
 use Rattle.job.specs.Kind.{kind-of}
 use Rattle.job.proofs.Limits.{count-most}
 use Rattle.job.proofs.Refusal.{decided, refused-gives, either}
-use Rattle.system.specs.Rows.{light-enough, small-enough}
-use Rattle.system.specs.System.{matrix-of, right-side-of}
+use Rattle.system.specs.Rows.{light-enough}
+use Rattle.system.specs.System.{right-side, matrix-of, right-side-of}
+use Rattle.system.proofs.Numbers.{right-place-most}
+use Rattle.scale.proofs.Smallest.{scale-smallest}
 use Rattle.job.specs.declared.Header.{Header}
 use Rattle.system.proofs.FirstRow.{first-row-is}
 use Rattle.header.specs.Header.{header-of}
 use Rattle.frame.specs.Frame.{frame-fields, frame-length, most-bytes, frame-numbers, frame-checks, frame-refusal, frame-reader-checks, frame-reader-refusal, frame-reader-answer, frame-reader-list, frame-writer-checks, frame-writer-refusal, frame-writer-answer, frame-writer-buffer}
-use Rattle.frame.specs.Theorems.{FrameDecided, FrameReaderDecided, FrameWriterDecided, FrameRowsGiven, FrameRoom, FrameReaderKeeps, FrameWriterKeeps, FrameListPast, FrameBufferPast, FrameReadWrite, FrameWriteRead}
+use Rattle.frame.specs.Theorems.{FrameDecided, FrameReaderDecided, FrameWriterDecided, FrameRowsGiven, FrameScale, FrameRoom, FrameReaderKeeps, FrameWriterKeeps, FrameListPast, FrameBufferPast, FrameReadWrite, FrameWriteRead}
 use Rattle.frame.proofs.Valid.{numbers-counted, frame-bits-most, accepted-frame, frame-reader-accepted, frame-writer-accepted}
+use Rattle.frame.proofs.Verdicts.{number-most}
 use Rattle.frame.proofs.RoundTrip.{bits-frame, write-laid, header-written, numbers-written, frame-length-written, frame-written-accepted}
 
 -- ---- demand 1: the checks decide
@@ -43,9 +46,19 @@ pub frame-rows : FrameRowsGiven
 frame-rows h v =
     record {
       heavy = λ i. first-row-is (λ i. not (light-enough h (weight (h .n) (matrix-of h v i)))) (h .n) i;
-      large = λ i. first-row-is (λ i. not (small-enough h (right-side-of h v i))) (h .n) i;
-      others = λ c a b. rw (ne-eqb c 8 a, ne-eqb c 9 b);
+      others = λ c a. rw (ne-eqb c 8 a);
     }
+
+-- ---- the scale
+
+pub frame-scale : FrameScale
+unfolding right-side
+frame-scale s e =
+    let a = accepted-frame s .0 e .valid in
+    let h = header-of s in
+    let small = scale-smallest h (right-side-of h (frame-numbers s))
+    (λ i l. number-most h (frame-numbers s) (a .fit) _ (rw (a .counted) (right-place-most (h .kind) (h .n) i (a .limits .kind-most) l))) in
+    record { smallest = small; limits = record { scale-most = small .most; last-most = a .steps } }
 
 -- ---- the room that is always enough
 

@@ -1,10 +1,10 @@
 -- What the checks of frames come to, as facts: `PassesLayout` is what 1 to 7 leave, `ValidJob` what the
 -- writer's checks but the last leave, `AcceptedFrame` both.
-use mathlib.Core.Path.{_≡_, refl, ap}
+use mathlib.Core.Path.{_≡_, refl}
 use mathlib.Core.Bool.{Bool, true, false, not, _&&_}
 use mathlib.Core.List.{List, [], _∷_, _++_}
 use mathlib.Core.Logic.{_↔_}
-use Prim.Native.Nat.{ℕ, zero, suc, _<_, _≤_}
+use Prim.Native.Nat.{ℕ, zero, suc, _*_, _<_, _≤_}
 use native.Mathlib.Nat.{mul-le-mul}
 use native.Mathlib.Omega.{arith}
 use borrow.Author.Tests.{le-ltb}
@@ -15,17 +15,18 @@ use Rattle.integers.specs.Sum.{weight}
 use Rattle.bitfields.specs.Layout.{fill, field}
 use Rattle.bitfields.specs.Twos.{Fits, AllFit, fitsb}
 use Rattle.bitfields.proofs.Twos.{fits-fitsb, fitsb-true, length-numbers, numbers-all-fit}
-use Rattle.job.specs.Header.{number-bits, count, header-checks, read-checks, Limits}
+use Rattle.job.specs.Header.{digit-bits, number-bits, count, header-checks, read-checks, Limits}
 use Rattle.job.specs.Refusal.{Check, first-refusal, None, none, also}
 use Rattle.job.proofs.Refusal.{accepted-exactly, equal, not-unequal}
 use Rattle.header.proofs.Header.{header-is}
 use Rattle.job.specs.Kind.{kind-of}
 use Rattle.job.proofs.Limits.{limits-exactly, count-most}
-use Rattle.system.specs.Rows.{light-enough, small-enough}
-use Rattle.system.specs.System.{matrix-of, right-side-of}
+use Rattle.job.specs.Rules.{last-step, scaled-steps-out-of-range}
+use Rattle.system.specs.Rows.{light-enough, heavy-row}
+use Rattle.system.specs.System.{matrix-of}
+use Rattle.scale.specs.Scale.{job-scale}
 use Rattle.job.specs.declared.Header.{Header}
-use Rattle.job.specs.declared.Verdict.{Verdict}
-use Rattle.system.proofs.Verdicts.{verdict-light, verdict-small, verdict-accepts}
+use Rattle.system.proofs.Searches.{none-heavy}
 use Rattle.header.specs.Header.{header-bits, header-of}
 use Rattle.frame.specs.Theorems.{PassesLayout, ValidJob, AcceptedFrame, FrameAccepted, FrameReaderAccepted, FrameWriterAccepted}
 use Rattle.frame.specs.Frame.{frame-bits, frame-length, frame-numbers, layout-checks, number-checks, frame-checks, frame-refusal, number-list-too-short, frame-reader-checks, wrong-count, all-fit, number-too-wide, frame-buffer-too-short, frame-writer-checks}
@@ -102,21 +103,24 @@ pub laid-is : (s : List ℕ) → (first-refusal (layout-checks s) ≡ 0) ↔ Pas
 laid-is s =
     ((λ e. none-laid s (accepted-exactly (layout-checks s) tt .0 e)), (λ a. accepted-exactly (layout-checks s) tt .1 (laid-none s a)))
 
--- ---- 8 and 9
+-- ---- 8 and 15
 
 module _ (h : Header) (v : List ℤ) where
-  none-light : None (number-checks h v) → (i : ℕ) → i < h .n → light-enough h (weight (h .n) (matrix-of h v i)) ≡ true
-  none-light f = verdict-light h (matrix-of h v) (right-side-of h v) (accepted-exactly (number-checks h v) tt .1 f)
+  none-light : T (not (ltb 0 (heavy-row h (matrix-of h v)))) → (i : ℕ) → i < h .n → light-enough h (weight (h .n) (matrix-of h v i)) ≡ true
+  none-light t = none-heavy h (matrix-of h v) .0 (none-found (heavy-row h (matrix-of h v)) (nltb→le 0 (heavy-row h (matrix-of h v)) t))
+    where
+      none-found : (a : ℕ) → a ≤ 0 → a ≡ 0
+      none-found a l = omega arith
 
-  none-small : None (number-checks h v) → (i : ℕ) → i < h .n → small-enough h (right-side-of h v i) ≡ true
-  none-small f = verdict-small h (matrix-of h v) (right-side-of h v) (accepted-exactly (number-checks h v) tt .1 f)
+  none-steps : T (not (scaled-steps-out-of-range h (job-scale h v))) → last-step h (job-scale h v) * digit-bits (h .code) ≤ 60
+  none-steps t = nltb→le 60 (last-step h (job-scale h v) * digit-bits (h .code)) t
 
   valid-none : ValidJob h v → None (number-checks h v)
   valid-none a =
-      accepted-exactly (number-checks h v) tt .0
-      (ap (λ (d : Verdict). d .refusal) (verdict-accepts h (matrix-of h v) (right-side-of h v) (a .light) (a .small)))
+      also (not-below 0 (heavy-row h (matrix-of h v)) (omega (arith, none-heavy h (matrix-of h v) .1 (a .light))))
+      (also (not-below 60 (last-step h (job-scale h v) * digit-bits (h .code)) (a .steps)) none)
 
--- ---- a frame: 1 to 9
+-- ---- a frame: 1 to 8 and 15
 
 -- as many numbers as its header demands, each of which fits
 pub numbers-counted : (s : List ℕ) → length (frame-numbers s) ≡ count (header-of s)
@@ -130,15 +134,15 @@ unfolding frame-checks
 none-accepted s f = by-parts (none-split (layout-checks s) (number-checks (header-of s) (frame-numbers s)) f)
   where
     by-parts : None (layout-checks s) × None (number-checks (header-of s) (frame-numbers s)) → AcceptedFrame s
-    by-parts (l, r) =
+    by-parts (l, also t₈ (also t₁₅ none)) =
         record {
           layout = none-laid s l;
           valid = record {
             limits = none-laid s l .limits;
             counted = numbers-counted s;
             fit = numbers-fitting s;
-            light = none-light (header-of s) (frame-numbers s) r;
-            small = none-small (header-of s) (frame-numbers s) r;
+            light = none-light (header-of s) (frame-numbers s) t₈;
+            steps = none-steps (header-of s) (frame-numbers s) t₁₅;
           };
         }
 
@@ -162,7 +166,7 @@ frame-reader-accepted s room = (
     by-parts : None (frame-checks s) × None ((23, number-list-too-short s room) ∷ []) → (frame-refusal s ≡ 0) × (count (header-of s) ≤ room)
     by-parts (f, also t none) = (accepted-exactly (frame-checks s) tt .1 f, nltb→le room (count (header-of s)) t)
 
--- ---- the writer: 2, 14, 3, 4, 5, then 12, 13, 8, 9, then 23
+-- ---- the writer: 2, 14, 3, 4, 5, then 12, 13, 8, 15, then 23
 
 none-taken : (h : Header) (v : List ℤ) (room : ℕ) → None (frame-writer-checks h v room) → ValidJob h v × (frame-length h ≤ room)
 unfolding frame-writer-checks
@@ -171,13 +175,13 @@ none-taken h v room f =
   where
     by-parts : None (header-checks h) × None (((12, wrong-count h v) ∷ (13, number-too-wide h v) ∷ number-checks h v) ++ ((23, frame-buffer-too-short h room) ∷ []))
         → ValidJob h v × (frame-length h ≤ room)
-    by-parts (header, also t₁₂ (also t₁₃ (also t₈ (also t₉ (also t₂₃ none))))) = (
+    by-parts (header, also t₁₂ (also t₁₃ (also t₈ (also t₁₅ (also t₂₃ none))))) = (
       record {
         limits = limits-exactly h .0 (accepted-exactly (header-checks h) tt .1 header);
         counted = equal (length v) (count h) t₁₂;
         fit = all-fit-true (number-bits h) v (not-not (all-fit (number-bits h) v) t₁₃);
-        light = none-light h v (also t₈ (also t₉ none));
-        small = none-small h v (also t₈ (also t₉ none));
+        light = none-light h v t₈;
+        steps = none-steps h v t₁₅;
       },
       nltb→le room (frame-length h) t₂₃,
     )

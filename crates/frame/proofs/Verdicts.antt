@@ -1,10 +1,11 @@
 -- A refusal number with the row given with it, of any list of checks: how the verdict of a list comes from
 -- those of its parts. Cited by the proofs of the functions that look at a part of the checks.
-use mathlib.Core.Path.{_≡_, refl, sym, ap, _∙_}
+use mathlib.Core.Path.{_≡_, refl, sym, ap, ap₂, _∙_}
 use mathlib.Core.Bool.{Bool, true, false, not, cond}
 use mathlib.Core.List.{List, [], _∷_, _++_}
-use Prim.Native.Nat.{ℕ, _+_, _-_, _<_, _≤_}
+use Prim.Native.Nat.{ℕ, _+_, _-_, _^_, _<_, _≤_}
 use native.Mathlib.Omega.{arith}
+use borrow.Author.Tests.{lt-ltb, le-ltb}
 use lib.Dec.{T, eqb}
 use lib.IntN.{ℤ, pos, negsuc, natAbs}
 use lib.ListN.{length, getD}
@@ -16,33 +17,35 @@ use Rattle.bitfields.specs.Twos.{AllFit}
 use Rattle.job.specs.Header.{number-bits, count, Limits}
 use Rattle.job.specs.Refusal.{Check, first-refusal}
 use Rattle.job.proofs.Refusal.{numbered, refused-before, accepted-before}
-use Rattle.system.specs.Rows.{system-verdict}
+use Rattle.job.specs.Rules.{scaled-steps-out-of-range}
+use Rattle.system.specs.Rows.{heavy-row}
 use Rattle.system.specs.System.{matrix-of, right-side-of}
+use Rattle.scale.specs.Scale.{scale, job-scale}
+use Rattle.scale.proofs.Smallest.{scale-flat}
 use Rattle.job.specs.declared.Header.{Header}
 use Rattle.job.specs.declared.Verdict.{Verdict}
 use Rattle.system.specs.Inner.{Numbers}
-use Rattle.system.proofs.Verdicts.{verdict-flat}
+use Rattle.system.proofs.Searches.{heavy-flat}
 use Rattle.frame.specs.Frame.{number-checks, frame-row}
-use Rattle.frame.specs.Inner.{checks-verdict}
+use Rattle.frame.specs.Inner.{checks-verdict, numbers-verdict}
 
--- none of the numbers is 8 or 9, so no row goes with them
+-- none of the numbers is 8, so no row goes with them
 unfoldable pub rowless : List Check → Bool
 rowless [] = true
-rowless (c ∷ cs) = both (both (not (eqb (c .0) 8)) (not (eqb (c .0) 9))) (rowless cs)
+rowless (c ∷ cs) = both (not (eqb (c .0) 8)) (rowless cs)
 
 -- ---- the verdict by parts
 
-neither : (a b : Bool) (x y : ℕ) → T (both (not a) (not b)) → cond a x (cond b y 0) ≡ 0
-neither true b x y t = absurd t
-neither false true x y t = absurd t
-neither false false x y t = refl
+fails : (a : Bool) (x : ℕ) → T (not a) → cond a x 0 ≡ 0
+fails true x t = absurd t
+fails false x t = refl
 
 module _ (h : Header) (v : List ℤ) where
   row-none : (cs : List Check) → T (rowless cs) → frame-row (first-refusal cs) h v ≡ 0
   unfolding rowless
   row-none [] t = refl
-  row-none ((k, true) ∷ cs) t = neither (eqb k 8) (eqb k 9) _ _ (both-left (both (not (eqb k 8)) (not (eqb k 9))) (rowless cs) t)
-  row-none ((k, false) ∷ cs) t = row-none cs (both-right (both (not (eqb k 8)) (not (eqb k 9))) (rowless cs) t)
+  row-none ((k, true) ∷ cs) t = fails (eqb k 8) _ (both-left (not (eqb k 8)) (rowless cs) t)
+  row-none ((k, false) ∷ cs) t = row-none cs (both-right (not (eqb k 8)) (rowless cs) t)
 
   -- refused by the first checks, with which no row goes
   pub verdict-before : (xs ys : List Check) {c : ℕ} → T (rowless xs) → c ≡ first-refusal xs → 0 < c
@@ -64,23 +67,43 @@ module _ (h : Header) (v : List ℤ) where
   unfolding checks-verdict
   verdict-after xs ys t e = ap (λ (c : ℕ). record { refusal = c; row = frame-row c h v }) (accepted-before xs ys t e)
 
--- ---- 8 and 9, as they are computed
+-- ---- 8 and 15, as they are computed
 
--- the verdict on the arrays of a job's system is that of 8 and 9
-pub verdict-arrays : (h : Header) (v : List ℤ) {g z : List ℤ} → h .n ≤ 16 → g ≡ flat-matrix (h .n) (matrix-of h v) → z ≡ flat-vector (h .n) (right-side-of h v)
-    → system-verdict h (entry g) (at z) ≡ checks-verdict (number-checks h v) h v
-unfolding checks-verdict
-verdict-arrays h v l e f = rw (e, f) (verdict-flat h (matrix-of h v) (right-side-of h v) l)
+pub of-heavy : (a : ℕ) (b : Bool) → 0 < a → record { refusal = 8; row = a } ≡ numbers-verdict a b
+of-heavy a b h = rw (lt-ltb 0 a h)
 
--- numbers that fit are small enough to set the system up from
+pub of-steps : (a : ℕ) (b : Bool) → a ≤ 0 → b ≡ true → record { refusal = 15; row = 0 } ≡ numbers-verdict a b
+of-steps a b h t = rw (le-ltb 0 a h, t)
+
+pub of-none : (a : ℕ) (b : Bool) → a ≤ 0 → b ≡ false → record { refusal = 0; row = 0 } ≡ numbers-verdict a b
+of-none a b h t = rw (le-ltb 0 a h, t)
+
+-- the arrays of a job's system, from which its heavy row and its scale are found
+module _ (h : Header) (v : List ℤ) {g z : List ℤ} (l : h .n ≤ 16) (e : g ≡ flat-matrix (h .n) (matrix-of h v)) (f : z ≡ flat-vector (h .n) (right-side-of h v)) where
+  pub scale-found : {s : ℕ} → s ≡ scale h (at z) → s ≡ job-scale h v
+  scale-found k = k ∙ rw f (scale-flat h (right-side-of h v) l)
+
+  heavy-found : {a : ℕ} → a ≡ heavy-row h (entry g) → a ≡ heavy-row h (matrix-of h v)
+  heavy-found k = k ∙ rw e (heavy-flat h (matrix-of h v) l)
+
+  pub verdict-found : {a s : ℕ} {d : Verdict} → a ≡ heavy-row h (entry g) → s ≡ scale h (at z)
+      → d ≡ numbers-verdict a (scaled-steps-out-of-range h s) → d ≡ checks-verdict (number-checks h v) h v
+  unfolding checks-verdict
+  verdict-found {a} {s} k m n =
+      n ∙ ap₂ (λ (a s : ℕ). numbers-verdict a (scaled-steps-out-of-range h s)) (heavy-found k) (scale-found m)
+
+-- numbers that fit are at most 2, and small enough to set the system up from
 abs-mag : (z : ℤ) → natAbs z ≤ mag z + 1
 abs-mag (pos n) = omega arith
 abs-mag (negsuc n) = omega arith
 
+pub number-most : (h : Header) (v : List ℤ) → AllFit (number-bits h) v → (i : ℕ) → i < length v → natAbs (getD v i (pos 0)) ≤ 2 ^ (h .f + 1)
+number-most h v f i k =
+    let e : number-bits h - 1 ≡ h .f + 1 = omega arith in
+    omega (arith, abs-mag (getD v i (pos 0)), rw e at (f .each-fits i k .size))
+
 pub numbers-small : {h : Header} {v : List ℤ} → Limits h → length v ≡ count h → AllFit (number-bits h) v → Numbers (count h) v
 numbers-small {h} {v} l e f = record {
   enough = omega (arith, e);
-  small = λ i k. record {
-    abs = omega (arith, abs-mag (getD v i (pos 0)), f .each-fits i (rw e k) .size, pow-mono {i = number-bits h - 1} {j = 41} (omega (arith, l .fraction-most)));
-  };
+  small = λ i k. record { abs = omega (arith, number-most h v f i (rw e k), pow-mono {i = h .f + 1} {j = 41} (omega (arith, l .fraction-most))) };
 }

@@ -54,7 +54,7 @@ pub fit-all : {w : ℕ} {v : List ℤ} {i : ℕ} → FitBefore w v i → length 
 unfolding all-fit
 fit-all {v} k l = sym (rw (drop-of-length-le v l) at (k .rest))
 
--- ---- 12, 13, 8 and 9
+-- ---- 12, 13, 8 and 15
 
 module _ (h : Header) (v : List ℤ) {n : ℕ} (k : n ≡ count h) where
   pub count-decides : (length v ≡ n → ⊥) → record { refusal = 12; row = 0 } ≡ checks-verdict (sent-checks h v) h v

@@ -4,8 +4,9 @@ use mathlib.Core.{Bool.Bool, Bool.true, Bool.not, Bool.cond, Bool._&&_, List.Lis
 use Prim.Native.Nat.{ℕ, _+_, _*_}
 use lib.{Dec.ltb, Dec.eqb, IntN.ℤ, ListN.length, ListN.drop}
 use Rattle.bitfields.specs.{Layout.Field, Layout.each, Layout.field, Layout.fill, Layout.bytes-for, Layout.written, Twos.encode, Twos.fitsb, Twos.numbers}
-use Rattle.job.specs.{Header.number-bits, Header.count, Header.read-checks, Header.header-checks, Header.zero-header, Refusal.Check, Refusal.first-refusal, declared.Header.Header}
-use Rattle.system.specs.{Rows.system-checks, Rows.row-given, System.matrix-of, System.right-side-of}
+use Rattle.job.specs.{Header.number-bits, Header.count, Header.read-checks, Header.header-checks, Header.zero-header, Refusal.Check, Refusal.first-refusal, Rules.scaled-steps-out-of-range, declared.Header.Header}
+use Rattle.system.specs.{Rows.heavy-row, System.matrix-of}
+use Rattle.scale.specs.Scale.{job-scale}
 use Rattle.header.specs.Header.{header-fields, header-bits, header-of}
 use Rattle.frame.specs.{declared.FrameRead.FrameRead, declared.FrameWritten.FrameWritten}
 
@@ -30,7 +31,7 @@ most-bytes = 1431
 abbrev pub frame-numbers : List ℕ → List ℤ
 frame-numbers s = numbers s header-bits (number-bits (header-of s)) (count (header-of s))
 
--- ---- a frame's refusals, 1 to 9
+-- ---- a frame's refusals, 1 to 8 and 15
 
 -- 1: not even a header
 abbrev pub frame-too-short : List ℕ → Bool
@@ -49,21 +50,23 @@ abbrev pub layout-checks : List ℕ → List Check
 layout-checks s =
     (1, frame-too-short s) ∷ read-checks (header-of s) ++ ((6, frame-wrong-length s) ∷ (7, frame-fill-bit-set s) ∷ [])
 
--- 8 and 9, of a header and numbers
+-- 8 and 15, of a header and numbers: a row too heavy, and more than 60 bits of steps at the job's scale
 abbrev pub number-checks : Header → List ℤ → List Check
-number-checks h v = system-checks h (matrix-of h v) (right-side-of h v)
+number-checks h v =
+    (8, ltb 0 (heavy-row h (matrix-of h v))) ∷ (15, scaled-steps-out-of-range h (job-scale h v)) ∷ []
 
 unfoldable pub frame-checks : List ℕ → List Check
 frame-checks s = layout-checks s ++ number-checks (header-of s) (frame-numbers s)
 
--- the number that a frame is refused by, 0 where it is accepted, and the row given with a number
+-- the number that a frame is refused by, 0 where it is accepted
 abbrev pub frame-refusal : List ℕ → ℕ
 frame-refusal s = first-refusal (frame-checks s)
 
-abbrev pub frame-row : ℕ → Header → List ℤ → ℕ
-frame-row c h v = row-given c h (matrix-of h v) (right-side-of h v)
+-- the row given with a number c: the first heavy row with 8, and 0 with every other number
+abbrev pub frame-row : (c : ℕ) → Header → List ℤ → ℕ
+frame-row c h v = cond (eqb c 8) (heavy-row h (matrix-of h v)) 0
 
--- ---- the frame reader: 1 to 9, then 23. It is lent a list of `room` words
+-- ---- the frame reader: 1 to 8, 15, then 23. It is lent a list of `room` words
 
 -- 23
 abbrev pub number-list-too-short : List ℕ → ℕ → Bool
@@ -89,7 +92,7 @@ unfoldable pub frame-reader-list : List ℕ → List ℤ → List ℤ
 frame-reader-list s out =
     cond (eqb (frame-reader-refusal s (length out)) 0) (frame-numbers s ++ drop (count (header-of s)) out) out
 
--- ---- the frame writer: 2, 14, 3, 4, 5, 12, 13, 8, 9, 23. It takes any header and numbers, and `room` bytes
+-- ---- the frame writer: 2, 14, 3, 4, 5, 12, 13, 8, 15, 23. It takes any header and numbers, and `room` bytes
 
 -- 12
 abbrev pub wrong-count : Header → List ℤ → Bool
@@ -107,7 +110,7 @@ number-too-wide h v = not (all-fit (number-bits h) v)
 abbrev pub frame-buffer-too-short : Header → ℕ → Bool
 frame-buffer-too-short h room = ltb room (frame-length h)
 
--- 12, 13, 8, 9: what the writer looks at in the numbers
+-- 12, 13, 8, 15: what the writer looks at in the numbers
 abbrev pub sent-checks : Header → List ℤ → List Check
 sent-checks h v = (12, wrong-count h v) ∷ (13, number-too-wide h v) ∷ number-checks h v
 

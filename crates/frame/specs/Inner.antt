@@ -1,16 +1,23 @@
 -- What the contracts of inner functions cite; a reader of the promises can skip it.
-use mathlib.Core.{Path._≡_, Bool.cond, List.List, List._++_}
+use mathlib.Core.{Path._≡_, Bool.Bool, Bool.cond, List.List, List.[], List._∷_, List._++_}
 use Prim.Native.Nat.{ℕ}
-use lib.{Dec.eqb, IntN.ℤ, ListN.drop}
+use lib.{Dec.ltb, Dec.eqb, IntN.ℤ, ListN.drop}
 use Rattle.integers.specs.Flat.{flat-vector, flat-matrix}
 use Rattle.job.specs.{Header.count, Header.zero-header, Refusal.Check, Refusal.first-refusal, declared.Header.Header, declared.Verdict.Verdict}
 use Rattle.system.specs.System.{matrix-of, right-side-of}
+use Rattle.scale.specs.Scale.{job-scale}
 use Rattle.header.specs.Header.{header-of}
 use Rattle.frame.specs.{declared.FrameRead.FrameRead, declared.Job.Job, Frame.frame-numbers, Frame.layout-checks, Frame.number-checks, Frame.frame-row}
 
 -- the first refusal of the checks, of a job with the header h and the numbers v, and its row
 unfoldable pub checks-verdict : List Check → Header → List ℤ → Verdict
 checks-verdict cs h v = record { refusal = first-refusal cs; row = frame-row (first-refusal cs) h v }
+
+-- the verdict of 8 and 15, where the search for a heavy row gives a, and b says whether 15's condition holds
+abbrev pub numbers-verdict : ℕ → Bool → Verdict
+numbers-verdict a b =
+    let c = first-refusal ((8, ltb 0 a) ∷ (15, b) ∷ []) in
+    record { refusal = c; row = cond (eqb c 8) a 0 }
 
 -- the first of 1 to 7, 0 where there is none
 unfoldable pub layout-refusal : List ℕ → ℕ
@@ -32,9 +39,10 @@ unpack-answer s =
 unfoldable pub unpacked : List ℕ → List ℤ → List ℤ
 unpacked s v = cond (eqb (layout-refusal s) 0) (frame-numbers s ++ drop (count (header-of s)) v) v
 
--- what `set_up` makes of a header and its numbers: the system, with the verdict on it
+-- what `set_up` makes of a header and its numbers: the scale and the system, with the verdict on them
 pub record SetUp (h : Header) (v : List ℤ) (j : Job) : Type 0 where
   pub verdict : record { refusal = j .refusal; row = j .row } ≡ checks-verdict (number-checks h v) h v
   pub header : j .header ≡ h
+  pub scale : j .scale ≡ job-scale h v
   pub matrix : j .g ≡ flat-matrix (h .n) (matrix-of h v)
   pub right-sides : j .z ≡ flat-vector (h .n) (right-side-of h v)

@@ -2,12 +2,13 @@
 -- what the definitions of Frame.antt say, whatever they are given, so each statement is one about the two
 -- calls. proofs/Theorems.antt and, of what is accepted, proofs/Valid.antt have a proof of each.
 use mathlib.Core.{Path._≡_, Bool.true, Bool.not, List.List, List._++_, Logic._↔_}
-use Prim.Native.Nat.{ℕ, suc, _<_, _≤_}
+use Prim.Native.Nat.{ℕ, suc, _*_, _<_, _≤_}
 use lib.{IntN.ℤ, ListN.length, ListN.drop}
 use Rattle.integers.specs.Sum.{weight}
 use Rattle.bitfields.specs.{Layout.Bytes, Layout.field, Layout.fill, Layout.write, Twos.AllFit}
-use Rattle.job.specs.{Header.number-bits, Header.count, Header.zero-header, Header.Limits, Refusal.Decides, declared.Header.Header, Kind.most-numbers}
-use Rattle.system.specs.{Rows.light-enough, Rows.small-enough, Rows.FirstRowIs, System.matrix-of, System.right-side-of}
+use Rattle.job.specs.{Header.digit-bits, Header.number-bits, Header.count, Header.zero-header, Header.Limits, Refusal.Decides, Rules.last-step, Rules.ScaleLimits, declared.Header.Header, Kind.most-numbers}
+use Rattle.system.specs.{Rows.light-enough, Rows.FirstRowIs, System.matrix-of, System.right-side-of}
+use Rattle.scale.specs.Scale.{Smallest, job-scale}
 use Rattle.header.specs.Header.{header-of}
 use Rattle.frame.specs.Frame.{frame-fields, frame-bits, frame-length, most-bytes, frame-numbers, frame-checks, frame-refusal, frame-row, frame-reader-checks, frame-reader-refusal, frame-reader-answer, frame-reader-list, frame-writer-checks, frame-writer-refusal, frame-writer-answer, frame-writer-buffer}
 
@@ -23,12 +24,11 @@ abbrev pub FrameWriterDecided : Type 0
 FrameWriterDecided =
     (h : Header) (v : List ℤ) (room : ℕ) → Decides (frame-writer-checks h v room) (frame-writer-refusal h v room)
 
--- The row given with 8 and 9 is the first that breaks the rule, counted from 1; else it is 0.
+-- The row given with 8 is the first that breaks the rule, counted from 1; else it is 0.
 pub record FrameRows (h : Header) (v : List ℤ) : Type 0 where
   pub heavy : (i : ℕ)
       → (frame-row 8 h v ≡ suc i) ↔ FirstRowIs (h .n) (λ i. not (light-enough h (weight (h .n) (matrix-of h v i)))) i
-  pub large : (i : ℕ) → (frame-row 9 h v ≡ suc i) ↔ FirstRowIs (h .n) (λ i. not (small-enough h (right-side-of h v i))) i
-  pub others : (c : ℕ) → (c ≡ 8 → ⊥) → (c ≡ 9 → ⊥) → frame-row c h v ≡ 0
+  pub others : (c : ℕ) → (c ≡ 8 → ⊥) → frame-row c h v ≡ 0
 
 abbrev pub FrameRowsGiven : Type 0
 FrameRowsGiven = (h : Header) (v : List ℤ) → FrameRows h v
@@ -41,22 +41,30 @@ pub record PassesLayout (s : List ℕ) : Type 0 where
   pub size : length s ≡ frame-length (header-of s)
   pub zeros : field s (frame-bits (header-of s)) (fill (frame-bits (header-of s))) ≡ 0
 
--- 2, 14, 3, 4, 5, 12, 13, 8 and 9 leave: a header within the limits, as many numbers as it demands, each of
--- which fits, rows that are light enough and right-hand sides that are small enough
+-- 2, 14, 3, 4, 5, 12, 13, 8 and 15 leave: a header within the limits, as many numbers as it demands, each of
+-- which fits, rows that are light enough, and a scale whose steps 60 bits hold
 pub record ValidJob (h : Header) (v : List ℤ) : Type 0 where
   pub limits : Limits h
   pub counted : length v ≡ count h
   pub fit : AllFit (number-bits h) v
   pub light : (i : ℕ) → i < h .n → light-enough h (weight (h .n) (matrix-of h v i)) ≡ true
-  pub small : (i : ℕ) → i < h .n → small-enough h (right-side-of h v i) ≡ true
+  pub steps : last-step h (job-scale h v) * digit-bits (h .code) ≤ 60
 
--- 1 to 9 leave
+-- 1 to 8 and 15 leave
 pub record AcceptedFrame (s : List ℕ) : Type 0 where
   pub layout : PassesLayout s
   pub valid : ValidJob (header-of s) (frame-numbers s)
 
 abbrev pub FrameAccepted : Type 0
 FrameAccepted = (s : List ℕ) → (frame-refusal s ≡ 0) ↔ AcceptedFrame s
+
+-- The scale of an accepted frame's job is the smallest that every right-hand side fits, and within its limits.
+pub record FrameScaled (h : Header) (v : List ℤ) : Type 0 where
+  pub smallest : Smallest h (right-side-of h v) (job-scale h v)
+  pub limits : ScaleLimits h (job-scale h v)
+
+abbrev pub FrameScale : Type 0
+FrameScale = (s : List ℕ) → frame-refusal s ≡ 0 → FrameScaled (header-of s) (frame-numbers s)
 
 -- the reader takes the accepted frames whose numbers its list has room for
 abbrev pub FrameReaderAccepted : Type 0

@@ -6,7 +6,7 @@
 // docs/FORMAT.md.
 //
 // Neither has a precondition. A refusal leaves every lent word and byte as it was and gives a header of
-// zeros, or the length 0; the row is 0 with every number but 8 and 9. Words past the numbers and bytes past
+// zeros, or the length 0; the row is 0 with every number but 8. Words past the numbers and bytes past
 // the frame keep their values. What follows from the contracts, the round trips among it, is in
 // specs/Theorems.antt.
 //
@@ -20,7 +20,8 @@ ghost use Rattle.job.specs.Header.{count, Limits};
 ghost use Rattle.system.specs.Inner.{Numbers};
 ghost use Rattle.frame.specs.Frame.{frame-fields, frame-bits, frame-length, frame-reader-answer, frame-reader-list, all-fit, sent-checks, frame-writer-checks, frame-writer-answer, frame-writer-buffer};
 ghost use Rattle.job.specs.Kind.{most-numbers};
-ghost use Rattle.frame.specs.Inner.{checks-verdict, layout-refusal, refused-answer, unpack-answer, unpacked, SetUp};
+ghost use Rattle.job.specs.Rules.{scaled-steps-out-of-range};
+ghost use Rattle.frame.specs.Inner.{checks-verdict, numbers-verdict, layout-refusal, refused-answer, unpack-answer, unpacked, SetUp};
 ghost use Rattle.frame.specs.Theorems.{ValidJob};
 use job::Header;
 use job::NUMBERS;
@@ -35,11 +36,12 @@ pub struct FrameRead {
 }
 
 // A job that was set up: the refusal number of its system, 0 where there is none, the row given with it, the
-// header, the matrix and the right-hand sides.
+// header, the scale, the matrix and the right-hand sides.
 pub struct Job {
     pub refusal: usize,
     pub row: usize,
     pub header: Header,
+    pub scale: usize,
     pub g: [i64; 256],
     pub z: [i64; 16],
 }
@@ -119,18 +121,40 @@ pub fn unpack(s: &[u8], v: &mut [i64]) -> FrameRead
     }
 }
 
-// The job of a header and its numbers: its system, and refusals 8 and 9 of it.
+// Refusals 8 and 15, from the first heavy row, 0 where there is none, and the scale. The row goes with 8 alone.
+fn verdict(heavy: usize, h: Header, scale: usize) -> Verdict
+    requires { ⌜ Limits h × (scale ≤ 2) ⌝ }
+    ensures { λ r. ⌜ r ≡ numbers-verdict heavy (scaled-steps-out-of-range h scale) ⌝ }
+{
+    if 0 < heavy {
+        return Verdict {
+            refusal: 8,
+            row: heavy,
+        };
+    }
+    if job::scaled_steps_out_of_range(h, scale) {
+        return Verdict {
+            refusal: 15,
+            row: 0,
+        };
+    }
+    Verdict { refusal: 0, row: 0 }
+}
+
+// The job of a header and its numbers: its system and its scale, and refusals 8 and 15 of them.
 pub fn set_up(h: Header, v: &[i64]) -> Job
     requires { ⌜ Limits h × Numbers (count h) (now v) ⌝ }
     ensures { λ r. ⌜ SetUp h (now (v .entry)) r ⌝ }
 {
     let g = system::matrix(h, v);
     let z = system::right_sides(h, v);
-    let d = system::verdict(&g, &z, h);
+    let scale = scale::scale(&z, h);
+    let d = verdict(system::heavy_row(&g, h), h, scale);
     Job {
         refusal: d.refusal,
         row: d.row,
         header: h,
+        scale,
         g,
         z,
     }
@@ -186,7 +210,7 @@ fn all_fit(v: &[i64], w: usize) -> bool
     true
 }
 
-// Refusals 12, 13, 8 and 9, of any numbers.
+// Refusals 12, 13, 8 and 15, of any numbers.
 fn numbers_verdict(h: Header, v: &[i64]) -> Verdict
     requires { ⌜ Limits h ⌝ }
     ensures { λ r. ⌜ r ≡ checks-verdict (sent-checks h (now (v .entry))) h (now (v .entry)) ⌝ }

@@ -1,8 +1,9 @@
 -- Laws of powers of a whole number, and positive factors that cancel.
 use mathlib.Core.Path.{_≡_, sym, ap, _∙_}
 use mathlib.Core.List.{[], _∷_}
-use Prim.Native.Nat.{ℕ, zero, suc, _+_, _<_, _^_}
+use Prim.Native.Nat.{ℕ, zero, suc, _+_, _*_, _<_, _^_}
 use native.Mathlib.Nat.{pow-zero, pow-succ', one-le-pow, le-of-mul-le-mul-left}
+use lib.Pow as powers
 use native.Mathlib.Omega.{arith}
 use lib.IntN.{ℤ, pos, natAbs, _-ℤ_, _*ℤ_}
 use lib.Signed.{_<ℤ_}
@@ -25,6 +26,11 @@ pow-add u (suc i) k =
 
 pub pow-positive : (u k : ℕ) → 0 < u → pos 0 <ℤ (pos u ^ℤ k)
 pow-positive u k h = rw (pow-pos u k) (let l = one-le-pow k u h in omega zarith)
+
+-- a power of a power, of natural numbers
+pub pow-pow : (a m k : ℕ) → (a ^ m) ^ k ≡ a ^ (k * m)
+pow-pow a m zero = let e : 0 * m ≡ 0 = omega arith in rw (pow-zero (a ^ m), e, pow-zero a)
+pow-pow a m (suc k) = let e : suc k * m ≡ m + k * m = omega arith in rw (pow-succ' (a ^ m) k, e, pow-pow a m k, powers.pow-add a m (k * m))
 
 -- a positive factor cancels
 pub cancel : {d a b : ℤ} → pos 0 <ℤ d → d *ℤ a ≡ d *ℤ b → a ≡ b

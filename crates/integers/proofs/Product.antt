@@ -1,10 +1,13 @@
 -- Laws of the product of a row with a vector, and of the weight of a row.
-use mathlib.Core.Path.{_≡_}
+use mathlib.Core.Path.{_≡_, _∙_}
 use mathlib.Core.List.{[], _∷_}
-use Prim.Native.Nat.{ℕ, suc, _+_, _*_, _<_, _≤_}
+use Prim.Native.Nat.{ℕ, zero, suc, _+_, _*_, _<_, _≤_}
+use native.Mathlib.Omega.{arith}
 use lib.IntN.{ℤ, pos, natAbs, _+ℤ_, _*ℤ_, *ℤ-zero}
+use Rattle.integers.proofs.Absolute.{abs-mul}
 use Rattle.integers.proofs.Normal.{solve, polys}
-use Rattle.integers.proofs.Sum.{sum-zero, sum-suc, total-zero, total-suc, sum-lin, sum-ext, total-ext, sum-none, abs-sum-mul, total-le, term-le-total}
+use Rattle.integers.proofs.Ring.{*ℤ-assoc}
+use Rattle.integers.proofs.Sum.{sum-zero, sum-suc, total-zero, total-suc, sum-lin, sum-scale, sum-ext, total-ext, sum-none, abs-sum-mul, total-le, term-le-total}
 use Rattle.integers.specs.Sum.{dot, weight}
 
 pub dot-zero : (g d : ℕ → ℤ) → dot 0 g d ≡ pos 0
@@ -40,6 +43,16 @@ dot-lin n g a b y s t h =
   where
     spread : (g a b : ℤ) → g *ℤ (s *ℤ a +ℤ t *ℤ b) ≡ s *ℤ (g *ℤ a) +ℤ t *ℤ (g *ℤ b)
     spread g a b = solve (g ∷ a ∷ b ∷ s ∷ t ∷ []) (search polys depth 14) (search polys depth 14) tt
+
+-- a row times a number
+pub dot-scale : (n : ℕ) (c : ℤ) (g d : ℕ → ℤ) → dot n (λ j. c *ℤ g j) d ≡ c *ℤ dot n g d
+unfolding dot
+dot-scale n c g d = sum-ext n (λ j. c *ℤ g j *ℤ d j) (λ j. c *ℤ (g j *ℤ d j)) (λ j l. *ℤ-assoc c (g j) (d j)) ∙ sum-scale n c (λ j. g j *ℤ d j)
+
+pub weight-scale : (n c : ℕ) (g : ℕ → ℤ) → weight n (λ j. pos c *ℤ g j) ≡ c * weight n g
+weight-scale zero c g = rw (weight-zero (λ j. pos c *ℤ g j), weight-zero g) (omega arith)
+weight-scale (suc n) c g =
+    rw (weight-suc n (λ j. pos c *ℤ g j), weight-suc n g, weight-scale n c g, abs-mul (pos c) (g n)) (omega arith)
 
 pub dot-none : (n : ℕ) (g d : ℕ → ℤ) → ((j : ℕ) → j < n → d j ≡ pos 0) → dot n g d ≡ pos 0
 unfolding dot

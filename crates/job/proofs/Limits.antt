@@ -8,17 +8,19 @@ use native.Mathlib.Nat.{div-lt-iff-lt-mul, mul-le-mul}
 use native.Mathlib.Omega.{arith}
 use borrow.Author.Tests.{lt-ltb, le-ltb, le-leb, leb-true, ltb-false, eqb-false, ne-eqb, not-false}
 use lib.Dec.{ltb, leb, eqb}
-use lib.Pow.{pow-mono, pow-pos}
+use lib.Pow.{pow-mono, pow-pos, pow-add}
 use Rattle.integers.proofs.Maximum.{le-or-lt}
+use Rattle.integers.proofs.Power.{pow-pow}
 use Rattle.job.specs.Refusal.{first-refusal, None, none, also}
 use Rattle.job.proofs.Refusal.{accepted-exactly, neither, fails, both-fail}
 use Rattle.job.specs.Header.{radix, digit-bits, unit, frame-code, trace-code, unknown-kind, read-checks-knowing, header-checks-knowing, read-checks, trace-read-checks, trace-header-checks, Limits, LimitsExactly}
 use Rattle.job.specs.Kind.{Kind, polynomial, rational, system, unused, kind-of, is-unused, count-of, most-numbers}
-use Rattle.job.specs.Rules.{last-step, trace-steps, inner-bits, inner-unit}
+use Rattle.job.specs.Rules.{last-step, trace-steps, most-scale, scaled-steps-out-of-range, scale-out-of-range, ScaleLimits, scale-factor, inner-unit}
 use Rattle.job.specs.declared.Header.{Header}
 
-fewer : (m c : ℕ) → m * (c + 1) ≤ 60 → m ≤ 60
-fewer m c g = omega arith
+-- digits that 60 bits hold are at most 60
+pub few-digits : (k c : ℕ) → k * (c + 1) ≤ 60 → k ≤ 60
+few-digits k c g = omega arith
 
 -- ---- the table of kinds: a number past its end, as the code tests it
 
@@ -107,10 +109,6 @@ trace-read-limits h = read-limits-when h (trace-code (h .code)) refl
 
 -- ---- what the limits give as plain numbers
 module _ (h : Header) where
-  -- every step of a job has room in a trace
-  pub last-in-trace : last-step h ≤ trace-steps h
-  last-in-trace = omega arith
-
   module _ (l : Limits h) where
     pub radix-most : radix (h .code) ≤ 16
     radix-most = pow-mono {i = digit-bits (h .code)} {j = 4} (omega (arith, l .code-most))
@@ -130,27 +128,62 @@ module _ (h : Header) where
     pub unit-least : 16 ≤ unit h
     unit-least = pow-mono {i = 4} {j = h .f} (l .fraction-least)
 
-    pub inner-bits-most : inner-bits h ≤ 40
-    inner-bits-most = l .fraction-most
-
-    pub inner-least : 16 ≤ inner-unit h
-    inner-least = unit-least
-
     pub steps-small : h .m ≤ 60
-    steps-small = fewer (h .m) (h .code) (l .steps-most)
+    steps-small = few-digits (h .m) (h .code) (l .steps-most)
 
-    -- the steps of a job, and of a trace, have room in the arrays of a state and in 60 bits
-    pub last-bits : last-step h * digit-bits (h .code) ≤ 60
-    last-bits = l .steps-most
+-- ---- the limits of a scale
 
-    pub last-least : 1 ≤ last-step h
-    last-least = l .steps-least
+-- they are what is asked of a scale under 24
+pub scale-limits : (h : Header) (s : ℕ) → (scale-out-of-range h s ≡ false) ↔ ScaleLimits h s
+scale-limits h s = (
+  (λ e.
+      let n = neither (ltb (most-scale (h .code)) s) (scaled-steps-out-of-range h s) (rw e tt) in
+      record { scale-most = ltb-false _ _ (n .0); last-most = ltb-false _ _ (n .1) }),
+  (λ l. fails _ (both-fail _ _ (le-ltb (most-scale (h .code)) s (l .scale-most)) (le-ltb 60 (last-step h s * digit-bits (h .code)) (l .last-most)))),
+)
 
-    pub last-small : last-step h ≤ 60
-    last-small = fewer (last-step h) (h .code) last-bits
+-- a scale within its limit is at most 2, and r^s has at most 4 bits
+pub most-scale-small : (code : ℕ) → most-scale code ≤ 2
+most-scale-small zero = omega arith
+most-scale-small (suc code) = omega arith
 
-    pub trace-small : trace-steps h ≤ 60
-    trace-small = fewer (trace-steps h) (h .code) (l .steps-most)
+few-bits : (code s : ℕ) → code ≤ 3 → s ≤ most-scale code → s * digit-bits code ≤ 4
+few-bits zero s l k = omega arith
+few-bits (suc code) s l k = omega (arith, mul-le-mul k l)
+
+module _ (h : Header) (s : ℕ) (k : ScaleLimits h s) where
+  pub scale-small : s ≤ 2
+  scale-small = omega (arith, k .scale-most, most-scale-small (h .code))
+
+  -- the steps of a job have room in the arrays of a state, in 60 bits, and in a trace
+  pub last-small : last-step h s ≤ 60
+  last-small = few-digits (last-step h s) (h .code) (k .last-most)
+
+  pub last-in-trace : last-step h s ≤ trace-steps h
+  last-in-trace = omega (arith, scale-small)
+
+  module _ (l : Limits h) where
+    pub last-least : 1 ≤ last-step h s
+    last-least = omega (arith, l .steps-least)
+
+    -- r^s is a power of 2, and so is the inner unit
+    pub scale-bits : (2 ^ (s * digit-bits (h .code)) ≡ scale-factor h s) × (s * digit-bits (h .code) ≤ 4)
+    scale-bits = (sym (pow-pow 2 (digit-bits (h .code)) s), few-bits (h .code) s (l .code-most) (k .scale-most))
+
+    pub inner-bits : (b : ℕ) → 2 ^ b ≡ scale-factor h s → b ≤ 4 → (2 ^ (h .f + b) ≡ inner-unit h s) × (h .f + b ≤ 44)
+    inner-bits b e m = (pow-add 2 (h .f) b ∙ rw e, omega (arith, l .fraction-most))
+
+    pub scale-factor-most : scale-factor h s ≤ 16
+    scale-factor-most = rw (sym (scale-bits .0)) (pow-mono {i = s * digit-bits (h .code)} {j = 4} (scale-bits .1))
+
+    pub scale-factor-least : 1 ≤ scale-factor h s
+    scale-factor-least = rw (sym (scale-bits .0)) (pow-pos (s * digit-bits (h .code)))
+
+    pub inner-most : inner-unit h s ≤ 2 ^ 44
+    inner-most = mul-le-mul (unit-most h l) scale-factor-most
+
+    pub inner-least : 16 ≤ inner-unit h s
+    inner-least = mul-le-mul (unit-least h l) scale-factor-least
 
 -- ---- a test by a quotient: x / b < m is x < m b
 pub ltb-quotient : (x b m : ℕ) → 0 < b → ltb (x / b) m ≡ ltb x (m * b)

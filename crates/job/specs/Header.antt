@@ -47,9 +47,13 @@ digit-out-of-range h = ltb (h .p) (radix (h .code) / 2) || ltb (radix (h .code) 
 abbrev pub fraction-out-of-range : Header → Bool
 fraction-out-of-range h = ltb (h .f) 4 || ltb 40 (h .f)
 
+-- k digits take more than 60 bits: k × log2(r) above 60
+abbrev pub past-60-bits : (code k : ℕ) → Bool
+past-60-bits code k = ltb 60 (k * digit-bits code)
+
 -- 5: m is 0, or m × log2(r) above 60
 abbrev pub steps-out-of-range : Header → Bool
-steps-out-of-range h = eqb (h .m) 0 || ltb 60 (h .m * digit-bits (h .code))
+steps-out-of-range h = eqb (h .m) 0 || past-60-bits (h .code) (h .m)
 
 -- 14: n outside 1 to 16
 abbrev pub order-out-of-range : Header → Bool

@@ -1,4 +1,4 @@
 pub mod Refusal
 pub mod Kind
-pub mod Rules
 pub mod Header
+pub mod Rules

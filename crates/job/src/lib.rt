@@ -2,7 +2,7 @@
 // numbers a job has.
 ghost use mathlib.Core.Path.{_≡_};
 ghost use mathlib.Core.Bool.{true};
-ghost use Prim.Native.Nat.{_≤_};
+ghost use Prim.Native.Nat.{_≤_, _^_};
 ghost use Rattle.job.specs.Header.{
   radix,
   count,
@@ -21,9 +21,11 @@ ghost use Rattle.job.specs.Header.{
   trace-read-checks,
   trace-header-checks,
   zero-header,
+  past-60-bits,
+  Limits,
 };
 ghost use Rattle.job.specs.Refusal.{first-refusal};
-ghost use Rattle.job.specs.Rules.{last-step, trace-steps, inner-bits};
+ghost use Rattle.job.specs.Rules.{last-step, most-scale, trace-steps, scaled-steps-out-of-range, scale-out-of-range, ScaleLimits, scale-factor, inner-unit};
 
 // The largest order: the rows, and the columns, that arrays have room for.
 pub const ROWS: usize = 16;
@@ -99,25 +101,78 @@ pub fn count(h: Header) -> usize
     0
 }
 
-// The last step of a job.
-pub fn last_step(h: Header) -> usize
-    ensures { λ r. ⌜ r ≡ last-step h ⌝ }
+// Whether k digits take more than 60 bits: k × log2(r) above 60.
+pub fn past_60_bits(code: usize, k: usize) -> bool
+    requires { ⌜ code ≤ 3 ⌝ }
+    ensures { λ r. ⌜ r ≡ past-60-bits code k ⌝ }
 {
-    h.m
+    60 / (code + 1) < k
 }
 
-// The most steps that a trace of the job may hold.
+// The last step of a job of scale s.
+pub fn last_step(h: Header, s: usize) -> usize
+    requires { ⌜ (h .m ≤ 60) × (s ≤ 2) ⌝ }
+    ensures { λ r. ⌜ r ≡ last-step h s ⌝ }
+{
+    h.m + s
+}
+
+// The largest scale that a job may have.
+fn most_scale(code: usize) -> usize
+    ensures { λ r. ⌜ r ≡ most-scale code ⌝ }
+{
+    if code == 0 { 2 } else { 1 }
+}
+
+// The most steps that a trace may hold, if 60 bits hold them.
 pub fn trace_steps(h: Header) -> usize
+    requires { ⌜ h .m ≤ 60 ⌝ }
     ensures { λ r. ⌜ r ≡ trace-steps h ⌝ }
 {
-    last_step(h)
+    last_step(h, 2)
 }
 
-// The fraction bits of the residuals inside a state.
-pub fn inner_bits(h: Header) -> usize
-    ensures { λ r. ⌜ r ≡ inner-bits h ⌝ }
+// 15: (m + s) × log2(r) above 60.
+pub fn scaled_steps_out_of_range(h: Header, s: usize) -> bool
+    requires { ⌜ Limits h × (s ≤ 2) ⌝ }
+    ensures { λ r. ⌜ r ≡ scaled-steps-out-of-range h s ⌝ }
 {
-    h.f
+    past_60_bits(h.code, last_step(h, s))
+}
+
+// Under 24: the scale above its limit, or the steps above 15's.
+pub fn scale_out_of_range(h: Header, s: usize) -> bool
+    requires { ⌜ Limits h ⌝ }
+    ensures { λ r. ⌜ r ≡ scale-out-of-range h s ⌝ }
+{
+    if most_scale(h.code) < s {
+        return true;
+    }
+    scaled_steps_out_of_range(h, s)
+}
+
+// log2 of r^s.
+fn scale_bits(h: Header, s: usize) -> usize
+    requires { ⌜ Limits h × ScaleLimits h s ⌝ }
+    ensures { λ b. ⌜ (2 ^ b ≡ scale-factor h s) × (b ≤ 4) ⌝ }
+{
+    s * (h.code + 1)
+}
+
+// r^s: how many units of the residuals inside a state make one of the frame's numbers.
+pub fn scale_factor(h: Header, s: usize) -> usize
+    requires { ⌜ Limits h × ScaleLimits h s ⌝ }
+    ensures { λ r. ⌜ r ≡ scale-factor h s ⌝ }
+{
+    integers::pow2(scale_bits(h, s)) as usize
+}
+
+// The fraction bits of the residuals inside a state: log2 of the inner unit.
+pub fn inner_bits(h: Header, s: usize) -> usize
+    requires { ⌜ Limits h × ScaleLimits h s ⌝ }
+    ensures { λ b. ⌜ (2 ^ b ≡ inner-unit h s) × (b ≤ 44) ⌝ }
+{
+    h.f + scale_bits(h, s)
 }
 
 // Whether load, the frame reader and the frame writer take the radix code, and a state may have it.
@@ -172,7 +227,7 @@ fn steps_out_of_range(h: Header) -> bool
     requires { ⌜ h .code ≤ 3 ⌝ }
     ensures { λ r. ⌜ r ≡ steps-out-of-range h ⌝ }
 {
-    h.m == 0 || 60 / (h.code + 1) < h.m
+    h.m == 0 || past_60_bits(h.code, h.m)
 }
 
 // Refusals 3, 4 and 5.

@@ -8,6 +8,7 @@ use Rattle.bitfields.specs.Layout.{field, number, bits, values-from}
 use Rattle.bitfields.specs.Twos.{decode}
 use Rattle.system.specs.Rows.{first-row-from}
 use Rattle.system.specs.System.{curve-entry, matrix, right-side}
+use Rattle.scale.specs.Scale.{every}
 use Rattle.frame.specs.Frame.{frame-checks}
 use Rattle.stepping.specs.Steps.{stepped-digits, stepped-residuals, steps, one-step}
 use Rattle.recurrence.specs.Recurrence.{shifted, next-digit, next-residual, reading, select, digit-size}
@@ -17,8 +18,8 @@ use Rattle.printout.specs.Printout.{items-from, step-lines, refused-word
 
 -- A
 text-A : frame-text (1 ∷ 16 ∷ 68 ∷ 16 ∷ 50 ∷ 0 ∷ [])
-    -- 0 2 1 4 2 4
-    ≡ (48 ∷ 32 ∷ 50 ∷ 32 ∷ 49 ∷ 32 ∷ 52 ∷ 32 ∷ 50 ∷ 32 ∷ 52 ∷ 10 ∷ [])
+    -- 0 2 1 4 2 4 0
+    ≡ (48 ∷ 32 ∷ 50 ∷ 32 ∷ 49 ∷ 32 ∷ 52 ∷ 32 ∷ 50 ∷ 32 ∷ 52 ∷ 32 ∷ 48 ∷ 10 ∷ [])
     -- 1 0 1
     ++ (49 ∷ 32 ∷ 48 ∷ 32 ∷ 49 ∷ 10 ∷ [])
     -- 2 1 0
@@ -29,12 +30,12 @@ text-A : frame-text (1 ∷ 16 ∷ 68 ∷ 16 ∷ 50 ∷ 0 ∷ [])
     ++ (52 ∷ 32 ∷ 45 ∷ 49 ∷ 32 ∷ 48 ∷ 10 ∷ [])
     -- = 5 8
     ++ (61 ∷ 32 ∷ 53 ∷ 32 ∷ 56 ∷ 10 ∷ [])
-unfolding frame-text frame-checks field number bits values-from decode first-row-from weight total curve-entry matrix right-side list-from fresh steps one-step stepped-digits stepped-residuals shifted next-digit next-residual dot sum select digit-size stores reading decimal-within signed-decimal line-end items-from step-lines
+unfolding frame-text frame-checks field number bits values-from decode first-row-from every weight total curve-entry matrix right-side list-from fresh steps one-step stepped-digits stepped-residuals shifted next-digit next-residual dot sum select digit-size stores reading decimal-within signed-decimal line-end items-from step-lines
 text-A = refl
 
 -- D: refused 8 1
 text-D : frame-text (1 ∷ 16 ∷ 68 ∷ 20 ∷ 50 ∷ 0 ∷ []) ≡ refused-word ++ (32 ∷ 56 ∷ 32 ∷ 49 ∷ 10 ∷ [])
-unfolding frame-text frame-checks field number bits values-from decode first-row-from weight total curve-entry matrix decimal-within line-end
+unfolding frame-text frame-checks field number bits values-from decode first-row-from every weight total curve-entry matrix decimal-within line-end
 text-D = refl
 
 -- an empty frame: refused 1

@@ -6,27 +6,23 @@ use mathlib.Core.Logic.{_⊎_, inl, inr}
 use Prim.Native.Nat.{ℕ, _-_, _<_, _≤_}
 use native.Mathlib.Omega.{arith}
 use borrow.Author.Tests.{eq-eqb, ne-eqb, le-leb, lt-leb}
-use lib.IntN.{ℤ}
 use lib.ListN.{length}
 use Rattle.integers.proofs.Maximum.{le-or-lt}
-use Rattle.job.specs.Rules.{last-step}
-use Rattle.job.specs.Header.{Limits}
 use Rattle.job.proofs.Limits.{last-least, last-small}
 use Rattle.job.specs.Refusal.{first-refusal}
 use Rattle.job.proofs.Refusal.{accepted-before}
-use Rattle.job.specs.declared.Header.{Header}
 use Rattle.frame.specs.Frame.{frame-refusal, frame-row, frame-numbers}
 use Rattle.header.specs.Header.{header-of}
-use Rattle.state.specs.State.{fresh, state-checks}
+use Rattle.state.specs.State.{fresh, state-checks, state-last, PassesLimits}
 use Rattle.state.specs.declared.State.{State}
 use Rattle.evaluator.specs.Evaluator.{loaded, no-budget, all-made, advance-checks, advance-refusal, smaller, advanced}
 use Rattle.stepping.specs.Steps.{steps}
 use Rattle.evaluator.specs.declared.Loaded.{Loaded}
 use Rattle.evaluator.specs.declared.Advanced.{Advanced}
-use Rattle.evaluator.proofs.Kept.{loaded-passes-limits, loaded-passes}
+use Rattle.evaluator.proofs.Kept.{fresh-start, loaded-passes-limits, loaded-passes}
 use Rattle.evaluator.proofs.Theorems.{accepted-load, made-smaller}
 use Rattle.text.specs.Text.{with-text, Put}
-use Rattle.printout.specs.Printout.{job-text, refused-text, frame-text}
+use Rattle.printout.specs.Printout.{job-text, refused-text, with-all-steps, frame-text}
 
 -- a text put at the front
 whole : {out after : List ℕ} {end : ℕ} (text : List ℕ) {lines : List ℕ} → text ≡ lines → Put out 0 lines after end → (end ≡ length text) × (after ≡ with-text out 0 text)
@@ -41,16 +37,16 @@ least-all m h = by-order (le-or-lt 60 m)
     by-order (inl l) = rw (le-leb 60 m l) (omega arith)
     by-order (inr l) = rw (lt-leb 60 m l)
 
-module _ (h : Header) (v : List ℤ) (p : first-refusal (state-checks (fresh h v)) ≡ 0) (least-steps : 1 ≤ last-step h) (most-steps : last-step h ≤ 60) where
-  advances : advance-refusal (fresh h v) 60 ≡ 0
-  unfolding advance-checks fresh
-  advances = accepted-before (state-checks (fresh h v)) ((22, no-budget 60) ∷ (21, all-made (fresh h v)) ∷ []) tt p ∙ rw (lt-leb (last-step h) 0 (omega arith))
+module _ (t : State) (start : t .k ≡ 0) (p : first-refusal (state-checks t) ≡ 0) (least-steps : 1 ≤ state-last t) (most-steps : state-last t ≤ 60) where
+  advances : advance-refusal t 60 ≡ 0
+  unfolding advance-checks
+  advances = accepted-before (state-checks t) ((22, no-budget 60) ∷ (21, all-made t) ∷ []) tt p ∙ rw (lt-leb (state-last t) (t .k) (omega arith))
 
-  all-steps-made : advanced (fresh h v) 60 .state ≡ steps (fresh h v) (last-step h)
-  unfolding advanced fresh
+  all-steps-made : advanced t 60 .state ≡ with-all-steps t
+  unfolding advanced
   all-steps-made =
-      let e : last-step h - 0 ≡ last-step h = omega arith in
-      ap (steps (fresh h v)) (rw e at (made-smaller (fresh h v) 60 advances) ∙ least-all (last-step h) most-steps)
+      let e : state-last t - t .k ≡ state-last t = omega arith in
+      ap (steps t) (rw e at (made-smaller t 60 advances) ∙ least-all (state-last t) most-steps)
 
 -- ---- l is what load answered
 
@@ -76,22 +72,25 @@ module _ (s : List ℕ) (l : Loaded) (e : l ≡ loaded s) where
     loaded-is : l .state ≡ fresh (header-of s) (frame-numbers s)
     loaded-is = ap (λ (x : Loaded). x .state) e ∙ accepted-load s (sym (ap (λ (x : Loaded). x .refusal) e) ∙ z)
 
-    limits : Limits (header-of s)
-    unfolding fresh
-    limits = loaded-passes-limits s accepted .limits
+    abbrev job : State
+    job = fresh (header-of s) (frame-numbers s)
 
-    passes : first-refusal (state-checks (fresh (header-of s) (frame-numbers s))) ≡ 0
+    limits : PassesLimits job
+    limits = loaded-passes-limits s accepted
+
+    passes : first-refusal (state-checks job) ≡ 0
     unfolding steps
     passes = loaded-passes s accepted 0 (omega arith)
 
-    state-is : a .state ≡ steps (fresh (header-of s) (frame-numbers s)) (last-step (header-of s))
+    state-is : a .state ≡ with-all-steps job
     state-is =
         ap (λ (x : Advanced). x .state) f
         ∙ ap (λ (t : State). advanced t 60 .state) loaded-is
-        ∙ all-steps-made (header-of s) (frame-numbers s) passes (last-least (header-of s) limits) (last-small (header-of s) limits)
+        ∙ all-steps-made job (fresh-start (header-of s) (frame-numbers s) .1) passes (last-least (job .header) (job .scale) (limits .scaled) (limits .limits))
+        (last-small (job .header) (job .scale) (limits .scaled))
 
     pub printable : first-refusal (state-checks (a .state)) ≡ 0
-    printable = rw state-is (loaded-passes s accepted (last-step (header-of s)) (omega arith))
+    printable = rw state-is (loaded-passes s accepted (state-last job) (omega arith))
 
     pub accepted-whole : {out after : List ℕ} {end : ℕ} → Put out 0 (job-text (a .state)) after end
         → (end ≡ length (frame-text s)) × (after ≡ with-text out 0 (frame-text s))

@@ -31,9 +31,9 @@ unfolding line-end
 length-naturals [] = omega arith
 length-naturals (n ∷ ns) = omega (arith, length-append (decimal n) (line-end (map decimal ns)), length-decimal n, length-naturals ns)
 
-pub length-header-line : (h : Header) → length (header-line h) ≤ 126
-length-header-line h =
-    let ns : List ℕ = radix (h .code) ∷ h .p ∷ h .f ∷ h .n ∷ h .m ∷ [] in
+pub length-header-line : (h : Header) (s : ℕ) → length (header-line h s) ≤ 147
+length-header-line h s =
+    let ns : List ℕ = radix (h .code) ∷ h .p ∷ h .f ∷ h .n ∷ h .m ∷ s ∷ [] in
     omega (arith, length-append (decimal (h .kind)) (line-end (map decimal ns)), length-decimal (h .kind), length-naturals ns)
 
 -- ---- items that are equal make the same text
@@ -56,7 +56,7 @@ module _ (s : State) (p : first-refusal (state-checks s) ≡ 0) where
   order-small = sound .limits .order-most
 
   pub made-small : s .k ≤ 60
-  made-small = omega (arith, sound .steps, last-small (s .header) (sound .limits))
+  made-small = omega (arith, sound .steps, last-small (s .header) (s .scale) (sound .scaled))
 
   -- its readings are not refused
   readings-pass : (room : ℕ) → 16 ≤ room → readings-refusal s room ≡ 0

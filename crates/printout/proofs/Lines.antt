@@ -1,12 +1,11 @@
 -- Lines of items put into a buffer one after the other. Cited by the proofs of the functions that put the
 -- lines.
 use mathlib.Core.Path.{_≡_, sym, ap, _∙_}
-use mathlib.Core.Bool.{Bool, true, false, _||_}
 use mathlib.Core.List.{List, [], _∷_, _++_, append-assoc, append-nil}
 use Prim.Native.Nat.{ℕ, zero, suc, _+_, _*_, _^_, _<_, _≤_}
 use native.Mathlib.Numerals.{add-one}
 use native.Mathlib.Omega.{arith}
-use lib.Dec.{eqb}
+use borrow.Author.Tests.{eq-eqb, ne-eqb}
 use lib.IntN.{ℤ}
 use lib.ListN.{length, length-append}
 use lib.Signed.{mag}
@@ -117,13 +116,13 @@ module _ {out : List ℕ} {at : ℕ} (s : State) where
     pub steps-all : (k : ℕ) → t ≡ k → Put out at (step-lines s 1 k) mid m
     steps-all k e = rw e at p
 
--- ---- a refused frame: b says whether a row is given
+-- ---- a refused frame: with 8 a row is given
 
-module _ (c row : ℕ) {out after : List ℕ} {at end : ℕ} {b : Bool} (e : b ≡ (eqb c 8 || eqb c 9)) where
-  pub refused-row : b ≡ true → Put out at (refused-word ++ ((32 ∷ decimal c) ++ ((32 ∷ decimal row) ++ (10 ∷ [])))) after end → Put out at (refused-text c row) after end
+module _ (c row : ℕ) {out after : List ℕ} {at end : ℕ} where
+  pub refused-row : c ≡ 8 → Put out at (refused-word ++ ((32 ∷ decimal c) ++ ((32 ∷ decimal row) ++ (10 ∷ [])))) after end → Put out at (refused-text c row) after end
   unfolding line-end
-  refused-row t p = rw (← e, t) p
+  refused-row e p = rw (eq-eqb c 8 e) p
 
-  pub refused-plain : b ≡ false → Put out at (refused-word ++ ((32 ∷ decimal c) ++ (10 ∷ []))) after end → Put out at (refused-text c row) after end
+  pub refused-plain : (c ≡ 8 → ⊥) → Put out at (refused-word ++ ((32 ∷ decimal c) ++ (10 ∷ []))) after end → Put out at (refused-text c row) after end
   unfolding line-end
-  refused-plain t p = rw (← e, t) p
+  refused-plain e p = rw (ne-eqb c 8 e) p

@@ -10,9 +10,7 @@ use text::put_item;
 use text::put_natural_item;
 ghost use mathlib.Core.Path.{_≡_};
 ghost use mathlib.Core.List.{[], _∷_};
-ghost use mathlib.Core.Bool.{_||_};
 ghost use Prim.Native.Nat.{suc, _+_, _*_, _<_, _≤_};
-ghost use lib.Dec.{eqb};
 ghost use lib.IntN.{pos};
 ghost use lib.ListN.{length, getD};
 ghost use Rattle.job.specs.Refusal.{first-refusal};
@@ -20,7 +18,7 @@ ghost use Rattle.state.specs.State.{digits-of, state-checks};
 ghost use Rattle.text.specs.Text.{decimal, line, line-end, with-text, Put};
 ghost use Rattle.printout.specs.Printout.{items-from, header-line, step-lines, readings-line, job-text, refused-text, frame-text, text-room, print-answer, print-buffer};
 
-// How many bytes print_frame is lent at least: more than any text takes, which is a header's line of 126
+// How many bytes print_frame is lent at least: more than any text takes, which is a header's line of 147
 // bytes, 60 lines of 373 and one of 354, at most.
 const TEXT_ROOM: usize = 32768;
 
@@ -31,26 +29,28 @@ pub struct Printed {
     pub length: usize,
 }
 
-// p, f, n and m, each after a space, and the newline. Here and below a number is given 20 digits, and a sign.
-fn put_fields(out: &mut [u8], at: usize, h: Header) -> usize
-    requires { ⌜ at + 85 ≤ length (now out) ⌝ }
-    ensures { λ r. ⌜ Put (now (out .entry)) at (line-end (decimal (h .p) ∷ decimal (h .f) ∷ decimal (h .n) ∷ decimal (h .m) ∷ [])) (now (out .exit)) r ⌝ }
+// p, f, n, m and the scale, each after a space, and the newline. Here and below a number is given 20 digits,
+// and a sign.
+fn put_fields(out: &mut [u8], at: usize, h: Header, scale: usize) -> usize
+    requires { ⌜ at + 106 ≤ length (now out) ⌝ }
+    ensures { λ r. ⌜ Put (now (out .entry)) at (line-end (decimal (h .p) ∷ decimal (h .f) ∷ decimal (h .n) ∷ decimal (h .m) ∷ decimal scale ∷ [])) (now (out .exit)) r ⌝ }
 {
     let a = put_natural_item(out, at, h.p as u64);
     let b = put_natural_item(out, a, h.f as u64);
     let c = put_natural_item(out, b, h.n as u64);
     let d = put_natural_item(out, c, h.m as u64);
-    put_byte(out, d, b'\n')
+    let e = put_natural_item(out, d, scale as u64);
+    put_byte(out, e, b'\n')
 }
 
-// The line kind, r, p, f, n, m.
-fn put_header_line(out: &mut [u8], at: usize, h: Header) -> usize
-    requires { ⌜ (h .code ≤ 3) × (at + 126 ≤ length (now out)) ⌝ }
-    ensures { λ r. ⌜ Put (now (out .entry)) at (header-line h) (now (out .exit)) r ⌝ }
+// The line kind, r, p, f, n, m, s.
+fn put_header_line(out: &mut [u8], at: usize, h: Header, scale: usize) -> usize
+    requires { ⌜ (h .code ≤ 3) × (at + 147 ≤ length (now out)) ⌝ }
+    ensures { λ r. ⌜ Put (now (out .entry)) at (header-line h scale) (now (out .exit)) r ⌝ }
 {
     let a = put_decimal(out, at, h.kind as u64);
     let b = put_natural_item(out, a, job::radix(h.code) as u64);
-    put_fields(out, b, h)
+    put_fields(out, b, h, scale)
 }
 
 // The digits of step t + 1 by row, each after a space, and the newline: at most 16 of 22 bytes.
@@ -106,21 +106,14 @@ fn put_numbers(out: &mut [u8], at: usize, y: &[i64; 16], n: usize) -> usize
     put_byte(out, end, b'\n')
 }
 
-// Whether a row is given with refusal c.
-fn has_row(c: usize) -> bool
-    ensures { λ r. ⌜ r ≡ (eqb c 8 || eqb c 9) ⌝ }
-{
-    c == 8 || c == 9
-}
-
-// The line of a refused frame: the number, and the row for 8 and 9.
+// The line of a refused frame: the number, and the row for 8.
 fn put_refused_text(out: &mut [u8], at: usize, c: usize, row: usize) -> usize
     requires { ⌜ at + 50 ≤ length (now out) ⌝ }
     ensures { λ r. ⌜ Put (now (out .entry)) at (refused-text c row) (now (out .exit)) r ⌝ }
 {
     let word = put_bytes(out, at, b"refused");
     let number = put_natural_item(out, word, c as u64);
-    if has_row(c) {
+    if c == 8 {
         let given = put_natural_item(out, number, row as u64);
         return put_byte(out, given, b'\n');
     }
@@ -143,7 +136,7 @@ fn put_job_text(out: &mut [u8], s: State) -> usize
     requires { ⌜ (first-refusal (state-checks s) ≡ 0) × (text-room ≤ length (now out)) ⌝ }
     ensures { λ r. ⌜ Put (now (out .entry)) 0 (job-text s) (now (out .exit)) r ⌝ }
 {
-    let a = put_header_line(out, 0, s.header);
+    let a = put_header_line(out, 0, s.header, s.scale);
     let b = put_step_lines(out, a, s);
     put_readings_line(out, b, s)
 }

@@ -1,12 +1,12 @@
-// Calls on states that no load made: any numbers in any field, and jobs made from case A with random changes,
-// so that some of them pass 24. After each call what its contract says is looked at again, word by word: a
+// Calls on states that no load made: any numbers in any field, and jobs made from cases A and E, of the scales
+// 0 and 1, with random changes, so that some of them pass 24. After each call what its contract says is looked at again, word by word: a
 // refused advance makes 0 steps and gives back every word of the state; an accepted one counts the growth of
-// k, and keeps the header, the matrix, the digits of the steps before and of the steps still to come, and all
+// k, and keeps the header, the scale, the matrix, the digits of the steps before and of the steps still to come, and all
 // that stands past the n-th row; a refused readings keeps every word of the list, and an accepted one keeps
 // the words past the n-th. It prints how many calls of advance and of readings there were for each refusal
 // number, 0 for the accepted ones, and `ok`; at a difference it prints `wrong`.
 //
-// Each turn makes the steps of case A as well, by load, advance and readings, by evaluate and by perform,
+// Each turn makes the steps of cases A and E as well, by load, advance and readings, by evaluate and by perform,
 // which are to give the same words.
 use emethod::Advanced;
 use emethod::Evaluated;
@@ -99,6 +99,7 @@ fn random_state(seed: u64) -> State {
     State {
         busy: x % 8 != 0,
         header: random_header(seed),
+        scale: small(x >> 16, 4),
         k: small(x, 62),
         g,
         z,
@@ -152,16 +153,27 @@ fn changed_digits(d: [i8; DIGITS], x: u64) -> [i8; DIGITS] {
     t
 }
 
-// A job made from case A with one part changed; in some of the cases nothing is.
+// The job of case A, or of case E.
+fn job_of_either(which: u64, budget: u64) -> State {
+    if which == 0 {
+        return job_after(b"\x01\x10\x44\x10\x32\x00", budget);
+    }
+    job_after(b"\x01\x10\x44\x10\x92\x00", budget)
+}
+
+// A job made from case A or E with one part changed; in some of the cases nothing is.
 fn changed_job(seed: u64) -> State {
     let a = next(seed);
     let b = next(a);
-    let mut s = job_after(b"\x01\x10\x44\x10\x32\x00", (b >> 32) % 5);
+    let mut s = job_of_either(a / 16 % 2, (b >> 32) % 6);
     let which = a % 12;
     let h = changed_header(s.header, which, b);
     s.header = h;
     if which == 4 {
-        s.k = small(b, 6);
+        s.k = small(b, 7);
+    }
+    if which == 10 {
+        s.scale = small(b, 4);
     }
     if which == 5 || which == 6 {
         let old = s.g;
@@ -243,6 +255,7 @@ fn digits_kept(a: &[i8; DIGITS], b: &[i8; DIGITS], n: usize, k: usize, last: usi
 fn words_kept(s: State, t: State, n: usize) -> bool {
     s.busy == t.busy
         && same_header(s.header, t.header)
+        && s.scale == t.scale
         && same_from(&s.g, &t.g, 0)
         && same_from(&s.z, &t.z, n)
         && digits_kept(&s.digits, &t.digits, n, s.k, t.k)
@@ -288,7 +301,7 @@ fn readings_right(
     same_from(before, list, s.header.n)
 }
 
-// A state from the seed: now and then the idle one, one of any numbers, or a job made from case A.
+// A state from the seed: now and then the idle one, one of any numbers, or a job made from case A or E.
 fn pick(seed: u64) -> State {
     if seed % 64 == 0 {
         return emethod::idle();
@@ -299,13 +312,13 @@ fn pick(seed: u64) -> State {
     changed_job(seed)
 }
 
-// Whether an evaluation was accepted, made so many steps, and gave the readings of the list.
-fn agrees(e: Evaluated, made: usize, readings: &[i64], list: &[i64]) -> bool {
-    e.refusal == 0 && e.made == made && same_from(readings, list, 0)
+// Whether an evaluation was accepted, has this scale, made so many steps, and gave the readings of the list.
+fn agrees(e: Evaluated, scale: usize, made: usize, readings: &[i64], list: &[i64]) -> bool {
+    e.refusal == 0 && e.scale == scale && e.made == made && same_from(readings, list, 0)
 }
 
-// Whether a job of order 2 has the same readings and as many steps after two advances by the three ways to
-// make them.
+// Whether a job of order 2 has the same scale, the same readings and as many steps after two advances by the
+// three ways to make them.
 fn ways_agree(frame: &[u8], first: u64, second: u64) -> bool {
     let mut called = [0i64; 2];
     let mut evaluated = [0i64; 2];
@@ -315,7 +328,9 @@ fn ways_agree(frame: &[u8], first: u64, second: u64) -> bool {
     let refusal = emethod::readings(s, &mut called);
     let e = emethod::evaluate(frame, &[first, second], &mut evaluated);
     let p = emethod::perform(frame, &[0, first, 0, second, 1, 2], &mut performed);
-    refusal == 0 && agrees(e, s.k, &called, &evaluated) && agrees(p, s.k, &called, &performed)
+    refusal == 0
+        && agrees(e, s.scale, s.k, &called, &evaluated)
+        && agrees(p, s.scale, s.k, &called, &performed)
 }
 
 // One state, an advance and a readings call, and the three ways; whether all are right. The list for the
@@ -328,6 +343,7 @@ fn turn(seed: u64, advances: &mut [u64; TALLIES], reads: &mut [u64; TALLIES]) ->
     let before = other.g;
     let mut list = before;
     ways_agree(b"\x01\x10\x44\x10\x32\x00", a % 7, b % 7)
+        && ways_agree(b"\x01\x10\x44\x10\x92\x00", a % 7, b % 7)
         && advance_right(s, random_budget(a), advances)
         && readings_right(s, &before, &mut list, ((b >> 5) % 21) as usize, reads)
 }

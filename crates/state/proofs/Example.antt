@@ -1,16 +1,17 @@
 -- Refusals 20 and 24 computed on a job with one digit stored: the idle state is refused by 20, a wrong digit
--- by 24.
+-- by 24. And a job whose scale is 1, as it starts and with its steps made.
 use mathlib.Core.Path.{_≡_, refl}
 use mathlib.Core.Bool.{true}
 use mathlib.Core.List.{[], _∷_}
 use Prim.Native.Nat.{ℕ}
 use lib.IntN.{ℤ, pos, negsuc}
 use lib.ListN.{replicate, set}
-use Rattle.integers.specs.Flat.{list-from}
+use Rattle.integers.specs.Flat.{at, list-from}
 use Rattle.integers.specs.Sum.{weight, total}
 use Rattle.job.specs.Refusal.{first-refusal}
 use Rattle.system.specs.Rows.{first-row-from}
 use Rattle.system.specs.System.{matrix, curve-entry, right-side}
+use Rattle.scale.specs.Scale.{every}
 use Rattle.state.specs.State.{digit-places, beyond, idle-state, fresh, breaks-limit, state-checks}
 use Rattle.state.specs.Inner.{state-of}
 use Rattle.state.specs.declared.State.{State}
@@ -29,7 +30,7 @@ idle-refused = refl
 -- after k steps, with the digit x at place i of the array and every other digit 0
 abbrev with-digit : ℕ → ℕ → ℤ → State
 with-digit k i x =
-    state-of true (example .header) k (example .g) (example .z) (set (replicate digit-places (pos 0)) i x)
+    state-of true (example .header) 0 k (example .g) (example .z) (set (replicate digit-places (pos 0)) i x)
 
 -- in step 1, -1 passes once the step is made and not before it, -2 is beyond p, and a row past the order is
 -- not looked at
@@ -39,3 +40,16 @@ digit-refused : (refusal-of (with-digit 1 0 (negsuc 0)) ≡ 0)
     × (refusal-of (with-digit 1 2 (negsuc 1)) ≡ 0)
 unfolding breaks-limit fresh beyond first-row-from weight total list-from matrix curve-entry right-side
 digit-refused = (refl, refl, refl, refl)
+
+-- the same with p_0 9, document 01's case E: its scale is 1, its z is the numbers sent, and five steps may be
+-- made of it, and no more
+abbrev high : State
+high = fresh (record { kind = 0; code = 0; p = 1; f = 4; n = 2; m = 4 }) (pos 4 ∷ pos 9 ∷ pos 8 ∷ [])
+
+abbrev after : (scale k : ℕ) → State
+after scale k = state-of true (high .header) scale k (high .g) (high .z) (replicate digit-places (pos 0))
+
+starts-high : (high .scale ≡ 1) × (at (high .z) 0 ≡ pos 9) × (refusal-of (after 1 5) ≡ 0) × (refusal-of (after 1 6) ≡ 24)
+    × (refusal-of (after 0 0) ≡ 24) × (refusal-of (after 3 0) ≡ 24)
+unfolding breaks-limit fresh beyond first-row-from every weight total list-from matrix curve-entry right-side
+starts-high = (refl, refl, refl, refl, refl, refl)

@@ -24,6 +24,7 @@ other-way {s} {t} e =
     record {
       busy = sym (e .busy);
       header = sym (e .header);
+      scale = sym (e .scale);
       steps = sym (e .steps);
       matrix = λ i j l m. sym (e .matrix i j (rw (e .header) l) (rw (e .header) m));
       residuals = λ i l. sym (e .residuals i (rw (e .header) l));
@@ -34,13 +35,14 @@ other-way {s} {t} e =
 -- + 1 and row i.
 abbrev pub overwritten : (s : State) (i j c : ℕ) (x : ℤ) → State
 overwritten s i j c x =
-    state-of (s .busy) (s .header) (s .k) (set (s .g) (16 * i + j) x) (set (s .z) i x) (set (s .digits) (16 * c + i) x)
+    state-of (s .busy) (s .header) (s .scale) (s .k) (set (s .g) (16 * i + j) x) (set (s .z) i x) (set (s .digits) (16 * c + i) x)
 
 pub overwritten-below : (s : State) (i j c : ℕ) (x : ℤ) → s .header .n ≤ i → i < 16 → j < 16 → SameBelow s (overwritten s i j c x)
 overwritten-below s i j c x o l m =
     record {
       busy = refl;
       header = refl;
+      scale = refl;
       steps = refl;
       matrix = λ a b h k. sym (getD-set-other (s .g) (16 * i + j) (16 * a + b) x (pos 0) (λ e. omega arith));
       residuals = λ a h. sym (getD-set-other (s .z) i a x (pos 0) (λ e. omega arith));
@@ -55,17 +57,18 @@ module _ {s t : State} (e : SameBelow s t) where
   passes-too p =
       record {
         limits = rw (← e .header) (p .limits);
-        steps = rw (← e .header, ← e .steps) (p .steps);
+        scaled = rw (← e .header, ← e .scale) (p .scaled);
+        steps = rw (← e .header, ← e .scale, ← e .steps) (p .steps);
         light = λ i l.
             let a : i < s .header .n = rw (e .header) l in
             rw (← e .header, ← weight-ext (s .header .n) (entry (s .g) i) (entry (t .g) i) (λ j m. e .matrix i j a m)) (p .light i a);
         small = λ i l.
             let a : i < s .header .n = rw (e .header) l in
-            rw (← e .header, ← e .residuals i a) (p .small i a);
+            rw (← e .header, ← e .scale, ← e .residuals i a) (p .small i a);
         made = λ j i m l.
             let a : i < s .header .n = rw (e .header) l in
             let b : j < s .k = rw (e .steps) m in
-            rw (← e .header, ← e .digits j i (omega (arith, p .steps, last-small (s .header) (p .limits))) a) (p .made j i b a);
+            rw (← e .header, ← e .digits j i (omega (arith, p .steps, last-small (s .header) (s .scale) (p .scaled))) a) (p .made j i b a);
         later = λ j i m b l.
             let a : i < s .header .n = rw (e .header) l in
             rw (← e .digits j i b a) (p .later j i (rw (e .steps) m) b a);

@@ -7,8 +7,8 @@ use Rattle.job.specs.declared.Header.{Header}
 use Rattle.state.specs.declared.State.{State}
 
 -- the state of parts that are lent one by one
-abbrev pub state-of : (busy : Bool) (h : Header) (k : ℕ) (g z digits : List ℤ) → State
-state-of busy h k g z digits = record { busy = busy; header = h; k = k; g = g; z = z; digits = digits }
+abbrev pub state-of : (busy : Bool) (h : Header) (scale k : ℕ) (g z digits : List ℤ) → State
+state-of busy h scale k g z digits = record { busy = busy; header = h; scale = scale; k = k; g = g; z = z; digits = digits }
 
 -- ---- a mark for each row that has a digit beyond a bound: all rows of a step are looked at together
 

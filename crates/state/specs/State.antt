@@ -5,16 +5,17 @@ use mathlib.Core.{Bool.Bool, Bool.true, Bool.false, Bool.not, Bool._||_, List.Li
 use Prim.Native.Nat.{ℕ, zero, suc, _-_, _*_, _<_, _≤_}
 use lib.{Dec.ltb, IntN.ℤ, IntN.pos, IntN.natAbs, ListN.replicate}
 use Rattle.integers.specs.{Flat.at, Flat.entry, Flat.flat-vector, Flat.flat-matrix, Sum.weight}
-use Rattle.job.specs.{Header.header-checks, Header.zero-header, Header.Limits, Refusal.Check, Refusal.first-refusal, Rules.last-step, Rules.inner-unit, Rules.bound-over, Rules.bound-under, declared.Header.Header}
+use Rattle.job.specs.{Header.header-checks, Header.zero-header, Header.Limits, Refusal.Check, Refusal.first-refusal, Rules.last-step, Rules.scale-out-of-range, Rules.ScaleLimits, Rules.inner-unit, Rules.bound-over, Rules.bound-under, declared.Header.Header}
 use Rattle.system.specs.{Rows.first-row, Rows.heavy-row, Rows.large-residual, Rows.light-enough, System.matrix-of, System.right-side-of}
+use Rattle.scale.specs.Scale.{job-scale}
 use Rattle.state.specs.declared.State.{State}
 
 -- the last step of a state's job, and the unit of its residuals
 abbrev pub state-last : State → ℕ
-state-last s = last-step (s .header)
+state-last s = last-step (s .header) (s .scale)
 
 abbrev pub state-unit : State → ℕ
-state-unit s = inner-unit (s .header)
+state-unit s = inner-unit (s .header) (s .scale)
 
 -- ---- the digits of all steps in one array: step j, from 1, of row i at 16 (j - 1) + i
 
@@ -51,19 +52,22 @@ idle-state =
     record {
       busy = false;
       header = zero-header;
+      scale = 0;
       k = 0;
       g = replicate 256 (pos 0);
       z = replicate 16 (pos 0);
       digits = replicate digit-places (pos 0);
     }
 
--- the job with the header h and the numbers v, with 0 steps made: z is b, the digits are all 0, and past the
--- order n there are zeros
+-- The job with the header h and the numbers v, with 0 steps made: its scale is s, z is b divided by r^s, the
+-- digits are all 0, and past the order n there are zeros. z is in units of 1 / (2^f × r^s), in which the
+-- divided b is the number sent.
 unfoldable pub fresh : Header → List ℤ → State
 fresh h v =
     record {
       busy = true;
       header = h;
+      scale = job-scale h v;
       k = 0;
       g = flat-matrix (h .n) (matrix-of h v);
       z = flat-vector (h .n) (right-side-of h v);
@@ -76,6 +80,10 @@ fresh h v =
 abbrev pub header-broken : State → Bool
 header-broken s = ltb 0 (first-refusal (header-checks (s .header)))
 
+-- the scale above its limit, or the last step above 15's
+abbrev pub scale-broken : State → Bool
+scale-broken s = scale-out-of-range (s .header) (s .scale)
+
 -- k above the last step
 abbrev pub steps-broken : State → Bool
 steps-broken s = ltb (state-last s) (s .k)
@@ -86,7 +94,7 @@ row-broken s = ltb 0 (heavy-row (s .header) (entry (s .g)))
 
 -- |z| above its bound of 1/2
 abbrev pub residual-broken : State → Bool
-residual-broken s = ltb 0 (large-residual (s .header) (at (s .z)))
+residual-broken s = ltb 0 (large-residual (s .header) (s .scale) (at (s .z)))
 
 -- a digit other than 0 after the k-th step
 abbrev pub later-digit : State → Bool
@@ -94,8 +102,8 @@ later-digit s = beyond (s .header .n) 0 (s .digits) (s .k) (all-steps - s .k)
 
 unfoldable pub breaks-limit : State → Bool
 breaks-limit s =
-    header-broken s || (steps-broken s || (row-broken s || (residual-broken s
-    || (digit-beyond (s .header) (s .k) (s .digits) || later-digit s))))
+    header-broken s || (scale-broken s || (steps-broken s || (row-broken s || (residual-broken s
+    || (digit-beyond (s .header) (s .k) (s .digits) || later-digit s)))))
 
 -- ---- 20, 24, which every call looks at first
 
@@ -108,8 +116,9 @@ state-checks s = (20, idle s) ∷ (24, breaks-limit s) ∷ []
 -- ---- what 24 asks, as facts on a state's numbers
 
 pub record PassesLimits (s : State) : Type 0 where
-  -- the header's fields are within their limits, and k is at most the last step
+  -- the header's fields and the scale are within their limits, and k is at most the last step
   pub limits : Limits (s .header)
+  pub scaled : ScaleLimits (s .header) (s .scale)
   pub steps : s .k ≤ state-last s
   -- every row is light enough, and every residual within its bound
   pub light : (i : ℕ) → i < s .header .n → light-enough (s .header) (weight (s .header .n) (entry (s .g) i)) ≡ true
@@ -124,12 +133,13 @@ PassesExactly = (s : State) → (breaks-limit s ≡ false) ↔ PassesLimits s
 
 -- ---- two states that agree below the order
 
--- Whether there is a job, the header and the steps made are the same, and so are G's entries in rows and
--- columns below the order, the residuals of the rows below it, and these rows' digits at each step that there
--- is room for. Of the other entries nothing is said.
+-- Whether there is a job, the header, the scale and the steps made are the same, and so are G's entries in
+-- rows and columns below the order, the residuals of the rows below it, and these rows' digits at each step
+-- that there is room for. Of the other entries nothing is said.
 pub record SameBelow (s t : State) : Type 0 where
   pub busy : s .busy ≡ t .busy
   pub header : s .header ≡ t .header
+  pub scale : s .scale ≡ t .scale
   pub steps : s .k ≡ t .k
   pub matrix : (i j : ℕ) → i < s .header .n → j < s .header .n → entry (s .g) i j ≡ entry (t .g) i j
   pub residuals : (i : ℕ) → i < s .header .n → at (s .z) i ≡ at (t .z) i

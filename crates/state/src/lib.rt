@@ -17,11 +17,13 @@ use system::ENTRIES;
 // The digits of all steps.
 pub const DIGITS: usize = STEPS * ROWS;
 
-// Idle, or a job: its header, the steps made, the matrix (row i, column j at 16 i + j), the residuals, and
-// the digits of all steps (step j, from 1, of row i at 16 (j - 1) + i). The idle state has every number 0.
+// Idle, or a job: its header, its scale s, the steps made, the matrix (row i, column j at 16 i + j) in units
+// of 1 / 2^f, the residuals in units of 1 / (2^f × r^s), and the digits of all steps (step j, from 1, of row
+// i at 16 (j - 1) + i). The idle state has every number 0.
 pub struct State {
     pub busy: bool,
     pub header: Header,
+    pub scale: usize,
     pub k: usize,
     pub g: [i64; ENTRIES],
     pub z: [i64; ROWS],
@@ -35,6 +37,7 @@ pub fn idle() -> State
     State {
         busy: false,
         header: job::no_header(),
+        scale: 0,
         k: 0,
         g: [0; ENTRIES],
         z: [0; ROWS],
@@ -101,27 +104,31 @@ fn bad_digit(d: &[i8; DIGITS], n: usize, p: usize, k: usize) -> bool
     beyond(d, n, p, 0, k) | beyond(d, n, 0, k, STEPS - k)
 }
 
-// Refusal 24: a header field out of its limits, k above the last step, a heavy row, a residual above its
-// bound, a digit beyond p, or a digit other than 0 after the k-th step.
+// Refusal 24: a header field or the scale out of its limits, k above the last step, a heavy row, a residual
+// above its bound, a digit beyond p, or a digit other than 0 after the k-th step.
 fn breaks_limit<'a>(
     h: Header,
+    scale: usize,
     k: usize,
     g: &'a [i64; ENTRIES],
     z: &'a [i64; ROWS],
     digits: &'a [i8; DIGITS],
 ) -> bool
-    ensures { λ r. ⌜ r ≡ breaks-limit (state-of true h k (now (g .entry)) (now (z .entry)) (now (digits .entry))) ⌝ }
+    ensures { λ r. ⌜ r ≡ breaks-limit (state-of true h scale k (now (g .entry)) (now (z .entry)) (now (digits .entry))) ⌝ }
 {
     if 0 < job::header_refusal(h) {
         return true;
     }
-    if job::last_step(h) < k {
+    if job::scale_out_of_range(h, scale) {
+        return true;
+    }
+    if job::last_step(h, scale) < k {
         return true;
     }
     if 0 < system::heavy_row(g, h) {
         return true;
     }
-    if 0 < system::large_residual(z, h) {
+    if 0 < system::large_residual(z, h, scale) {
         return true;
     }
     bad_digit(digits, h.n, h.p, k)
@@ -131,17 +138,18 @@ fn breaks_limit<'a>(
 pub fn check<'a>(
     busy: bool,
     h: Header,
+    scale: usize,
     k: usize,
     g: &'a [i64; ENTRIES],
     z: &'a [i64; ROWS],
     digits: &'a [i8; DIGITS],
 ) -> usize
-    ensures { λ r. ⌜ r ≡ first-refusal (state-checks (state-of busy h k (now (g .entry)) (now (z .entry)) (now (digits .entry)))) ⌝ }
+    ensures { λ r. ⌜ r ≡ first-refusal (state-checks (state-of busy h scale k (now (g .entry)) (now (z .entry)) (now (digits .entry)))) ⌝ }
 {
     if !busy {
         return 20;
     }
-    if breaks_limit(h, k, g, z, digits) {
+    if breaks_limit(h, scale, k, g, z, digits) {
         return 24;
     }
     0

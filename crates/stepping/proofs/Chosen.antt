@@ -22,12 +22,12 @@ use Rattle.recurrence.proofs.Selection.{digit-size-nearest, digit-size-cut}
 
 -- ---- the unit
 
-pub unit-within : (f : ℕ) → f ≤ 40 → 2 ^ f ≤ 2 ^ 40
+pub unit-within : (f : ℕ) → f ≤ 44 → 2 ^ f ≤ 2 ^ 44
 unit-within f h = pow-mono h
 
 -- what `unit` gave
-abbrev unit-value : (f : ℕ) → f ≤ 40 → (one : ℤ) → one ≡ pos (2 ^ f) → Machine one
-unit-value f h one e = known one (pos (2 ^ f)) (2 ^ 40) e (unit-within f h)
+abbrev unit-value : (f : ℕ) → f ≤ 44 → (one : ℤ) → one ≡ pos (2 ^ f) → Machine one
+unit-value f h one e = known one (pos (2 ^ f)) (2 ^ 44) e (unit-within f h)
 
 -- ---- the digit of a magnitude
 
@@ -50,27 +50,27 @@ digit-size-le p u a hu = by-case (le-or-lt a (p * u))
 pub record Raised (u q : ℕ) (x : ℤ) : Type 0 where
   pub size : ℕ
   pub is : x ≡ pos size
-  pub small : size ≤ 2 ^ 46
+  pub small : size ≤ 2 ^ 50
   pub digit : size / u ≡ q
 
-same : (w : ℤ) → Within w (2 ^ 45) → toZ w64 (ofZ w64 w) ≡ w
+same : (w : ℤ) → Within w (2 ^ 49) → toZ w64 (ofZ w64 w) ≡ w
 same w hw = machine-eq (search machs depth 9) tt refl
 
 -- `size`, `half` and `one` are what `magnitude`, `half_pow2` and `unit` gave of w and f
 pub record Given (w : ℤ) (f p : ℕ) (size half one : ℤ) : Type 0 where
-  pub bits : f ≤ 40
+  pub bits : f ≤ 44
   pub largest : p ≤ 15
-  pub within : Within w (2 ^ 45)
+  pub within : Within w (2 ^ 49)
   pub size-is : size ≡ pos (natAbs (toZ w64 (ofZ w64 w)))
   pub half-is : half ≡ pos (2 ^ f / 2)
   pub one-is : one ≡ pos (2 ^ f)
 
 module _ {w : ℤ} {f p : ℕ} {size half one : ℤ} (k : Given w f p size half one) where
   abbrev the-size : Machine size
-  the-size = known size (pos (natAbs w)) (2 ^ 45) (k .size-is ∙ ap (λ x. pos (natAbs x)) (same w (k .within))) (k .within .abs)
+  the-size = known size (pos (natAbs w)) (2 ^ 49) (k .size-is ∙ ap (λ x. pos (natAbs x)) (same w (k .within))) (k .within .abs)
 
   abbrev the-half : Machine half
-  the-half = known half (pos (2 ^ f / 2)) (2 ^ 40) (k .half-is) (omega (arith, unit-within f (k .bits)))
+  the-half = known half (pos (2 ^ f / 2)) (2 ^ 44) (k .half-is) (omega (arith, unit-within f (k .bits)))
 
   abbrev the-unit : Machine one
   the-unit = unit-value f (k .bits) one (k .one-is)
@@ -112,18 +112,18 @@ module _ {w : ℤ} {f p : ℕ} {size half one : ℤ} (k : Given w f p size half 
       }
 
 -- the quotient of what is raised
-module _ (f q : ℕ) (hf : f ≤ 40) (x one : ℤ) (eo : one ≡ pos (2 ^ f)) (h : Raised (2 ^ f) q x) where
+module _ (f q : ℕ) (hf : f ≤ 44) (x one : ℤ) (eo : one ≡ pos (2 ^ f)) (h : Raised (2 ^ f) q x) where
   unit-read : toZ w64 (ofZ w64 one) ≡ pos (2 ^ f)
   unit-read = let a = unit-value f hf one eo in machine-eq (search machs depth 9) tt refl
 
   quotient-is : quotZ x (toZ w64 (ofZ w64 one)) ≡ pos q
   quotient-is = rw (h .is, unit-read) (ap pos (h .digit))
 
-  digit-small : natAbs (pos q) ≤ 2 ^ 46
+  digit-small : natAbs (pos q) ≤ 2 ^ 50
   digit-small = omega (arith, h .digit, div-le-self (h .size) (2 ^ f), h .small)
 
   abbrev the-quotient : Machine (quotZ x (toZ w64 (ofZ w64 one)))
-  the-quotient = known (quotZ x (toZ w64 (ofZ w64 one))) (pos q) (2 ^ 46) quotient-is digit-small
+  the-quotient = known (quotZ x (toZ w64 (ofZ w64 one))) (pos q) (2 ^ 50) quotient-is digit-small
 
   pub quotient-fits : (0 < ofZ w64 one) × SFits w64 (quotZ x (toZ w64 (ofZ w64 one)))
   quotient-fits = (rw eo (pow-pos f), machine-fits the-quotient tt)
@@ -144,13 +144,13 @@ of-nonnegative p u (pos a) h = refl
 of-nonnegative p u (negsuc a) h = absurd (omega (zarith, h))
 
 -- `size` is what `digit_size` gave
-module _ (w : ℤ) (f p : ℕ) (hf : f ≤ 40) (hw : Within w (2 ^ 45)) (size : ℤ) (es : size ≡ pos (digit-size p (2 ^ f) (natAbs (toZ w64 (ofZ w64 w))))) where
+module _ (w : ℤ) (f p : ℕ) (hf : f ≤ 44) (hw : Within w (2 ^ 49)) (size : ℤ) (es : size ≡ pos (digit-size p (2 ^ f) (natAbs (toZ w64 (ofZ w64 w))))) where
   size-is : size ≡ pos (digit-size p (2 ^ f) (natAbs w))
   size-is = es ∙ ap (λ x. pos (digit-size p (2 ^ f) (natAbs x))) (same w hw)
 
   abbrev the-digit : Machine size
   the-digit =
-      known size (pos (digit-size p (2 ^ f) (natAbs w))) (2 ^ 46) size-is
+      known size (pos (digit-size p (2 ^ f) (natAbs w))) (2 ^ 50) size-is
       (omega (arith, digit-size-le p (2 ^ f) (natAbs w) (pow-pos f), unit-within f hf, hw .abs))
 
   pub opposite-fits : SFits w64 (pos 0 -ℤ toZ w64 (ofZ w64 size))
@@ -169,7 +169,7 @@ module _ (w : ℤ) (f p : ℕ) (hf : f ≤ 40) (hw : Within w (2 ^ 45)) (size : 
 -- ---- what a digit leaves
 
 -- `one` is what `unit` gave
-module _ (w q : ℤ) (f : ℕ) (hf : f ≤ 40) (hw : Within w (2 ^ 45)) (hq : Within q 15) (one : ℤ) (eo : one ≡ pos (2 ^ f)) where
+module _ (w q : ℤ) (f : ℕ) (hf : f ≤ 44) (hw : Within w (2 ^ 49)) (hq : Within q 15) (one : ℤ) (eo : one ≡ pos (2 ^ f)) where
   pub taken-fits : SFits w64 (toZ w64 (ofZ w64 one) *ℤ toZ w64 (ofZ w64 q))
   taken-fits = let a = unit-value f hf one eo in machine-fits (search machs depth 9) tt
 

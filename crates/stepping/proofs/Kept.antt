@@ -4,29 +4,32 @@ use mathlib.Core.Path.{_≡_, refl, sym, _∙_, subst}
 use mathlib.Core.Bool.{true}
 use mathlib.Core.List.{List}
 use mathlib.Core.Logic.{_⊎_, inl, inr}
-use Prim.Native.Nat.{ℕ, zero, suc, _+_, _*_, _<_, _≤_}
+use Prim.Native.Nat.{ℕ, zero, suc, _+_, _*_, _^_, _<_, _≤_}
+use native.Mathlib.Nat.{mul-le-mul-right}
 use native.Mathlib.Omega.{arith}
 use borrow.Author.Tests.{leb-true}
-use lib.IntN.{ℤ, pos, natAbs}
+use lib.IntN.{ℤ, pos, natAbs, _*ℤ_}
 use lib.ListN.{length, List·getD-eq-default}
-use lib.Pow.{pow-pos}
 use Rattle.integers.specs.Flat.{at, entry}
 use Rattle.integers.proofs.Flat.{at-flat-vector}
 use Rattle.integers.proofs.Stores.{length-stores, stores-at}
 use Rattle.integers.proofs.Maximum.{le-or-lt}
-use Rattle.job.specs.Header.{radix, Limits}
-use Rattle.job.proofs.Limits.{radix-least, radix-most, digit-small}
+use Rattle.integers.specs.Sum.{weight}
+use Rattle.integers.proofs.Product.{weight-scale}
+use Rattle.job.specs.Header.{radix, unit, Limits}
+use Rattle.job.proofs.Limits.{radix-least, radix-most, digit-small, unit-least, unit-most, scale-factor-most, inner-most, inner-least}
 use Rattle.system.specs.Rows.{light-enough}
-use Rattle.job.specs.Rules.{inner-bits, inner-unit, bound-over, bound-under}
+use Rattle.job.specs.Rules.{scale-factor, inner-unit, bound-over, bound-under}
 use Rattle.job.specs.declared.Header.{Header}
 use Rattle.stepping.proofs.Limits.{KeepsLimits}
 use Rattle.recurrence.specs.Recurrence.{Light}
 use Rattle.recurrence.proofs.Light.{light-rule}
+use Rattle.recurrence.proofs.Row.{light-less}
 use Rattle.stepping.proofs.Stepped.{keeps-limits-next}
 use Rattle.state.specs.State.{digits-of, state-last, state-unit, PassesLimits}
 use Rattle.state.specs.declared.State.{State}
-use Rattle.stepping.specs.Steps.{last-digits, chosen-digits, residuals-left, digits-stored, one-step, steps, StepsPassLimits}
-use Rattle.stepping.proofs.Steps.{steps-header, steps-k, stored-other}
+use Rattle.stepping.specs.Steps.{last-digits, state-factor, chosen-digits, residuals-left, digits-stored, one-step, steps, StepsPassLimits}
+use Rattle.stepping.proofs.Steps.{steps-header, steps-scale, steps-k, stored-other}
 
 -- ---- the digits of a step in the array
 
@@ -42,10 +45,26 @@ stored-each n k ds d Q q h i l = by-case (le-or-lt (length ds) (16 * k + i))
 
 -- ---- a state that passes its limits can make a step
 
+-- a light row is light in a finer unit
+light-finer : (r p u c e S x : ℕ) → Light r p u c e S → Light r p (u * x) c e (x * S)
+light-finer r p u c e S x l = record { light = omega (arith, mul-le-mul-right x (l .light)) }
+
 -- a row that is light enough is light, as the recurrence has it
-pub light-row : {h : Header} {S : ℕ} → Limits h → light-enough h S ≡ true → Light (radix (h .code)) (h .p) (inner-unit h) bound-over bound-under S
-light-row {h} {S} l e =
-    light-rule (radix (h .code)) (h .p) (inner-unit h) bound-over bound-under S (omega (arith, radix-least h l)) (omega (arith, l .digit-least)) .1 (leb-true _ _ e)
+pub light-row : (h : Header) (S : ℕ) → Limits h → light-enough h S ≡ true → Light (radix (h .code)) (h .p) (unit h) bound-over bound-under S
+light-row h S l e =
+    light-rule (radix (h .code)) (h .p) (unit h) bound-over bound-under S (omega (arith, radix-least h l)) (omega (arith, l .digit-least)) .1 (leb-true _ _ e)
+
+-- so it is in the unit of residuals
+pub light-row-finer : (h : Header) (s : ℕ) (g : ℕ → ℤ) → Limits h → light-enough h (weight (h .n) g) ≡ true
+    → Light (radix (h .code)) (h .p) (inner-unit h s) bound-over bound-under (weight (h .n) (λ j. pos (scale-factor h s) *ℤ g j))
+light-row-finer h s g l e =
+    rw (weight-scale (h .n) (scale-factor h s) g)
+    (light-finer (radix (h .code)) (h .p) (unit h) bound-over bound-under (weight (h .n) g) (scale-factor h s) (light-row h (weight (h .n) g) l e))
+
+-- and it weighs less than a unit
+light-small : (h : Header) (S : ℕ) → Limits h → light-enough h S ≡ true → S ≤ 2 ^ 40
+light-small h S l e =
+    omega (arith, light-less (radix (h .code)) (h .p) (unit h) bound-over bound-under S (radix-least h l) (omega arith) (omega (arith, unit-least h l)) (light-row h S l e), unit-most h l)
 
 module _ (s : State) (p : PassesLimits s) where
   abbrev n : ℕ
@@ -55,13 +74,16 @@ module _ (s : State) (p : PassesLimits s) where
   digit-within zero i m l = omega arith
   digit-within (suc k) i m l = p .made k i m l
 
-  pub keeps-limits : KeepsLimits n (radix (s .header .code)) (s .header .p) (state-unit s) (s .g) (s .z) (last-digits s)
+  pub keeps-limits : KeepsLimits n (radix (s .header .code)) (state-factor s) (s .header .p) (state-unit s) (s .g) (s .z) (last-digits s)
   keeps-limits =
       record {
         order = p .limits .order-most;
         radix = (radix-least (s .header) (p .limits), radix-most (s .header) (p .limits));
+        factor = scale-factor-most (s .header) (s .scale) (p .scaled) (p .limits);
         largest = digit-small (s .header) (p .limits);
-        light = record { rows = λ i l. light-row (p .limits) (p .light i l) };
+        unit-most = inner-most (s .header) (s .scale) (p .scaled) (p .limits);
+        weights = λ i l. light-small (s .header) (weight n (entry (s .g) i)) (p .limits) (p .light i l);
+        light = record { rows = λ i l. light-row-finer (s .header) (s .scale) (entry (s .g) i) (p .limits) (p .light i l) };
         within = record {
           z-small = p .small;
           d-small = λ i l.
@@ -71,8 +93,8 @@ module _ (s : State) (p : PassesLimits s) where
 
   -- ---- and passes them after it
   module _ (left : s .k < state-last s) where
-    next : KeepsLimits n (radix (s .header .code)) (s .header .p) (state-unit s) (s .g) (residuals-left s) (chosen-digits s)
-    next = keeps-limits-next (pow-pos (inner-bits (s .header))) keeps-limits refl refl
+    next : KeepsLimits n (radix (s .header .code)) (state-factor s) (s .header .p) (state-unit s) (s .g) (residuals-left s) (chosen-digits s)
+    next = keeps-limits-next (omega (arith, inner-least (s .header) (s .scale) (p .scaled) (p .limits))) keeps-limits refl refl
 
     abbrev stored : List ℤ
     stored = digits-stored n (s .k) (s .digits) (chosen-digits s)
@@ -95,6 +117,7 @@ module _ (s : State) (p : PassesLimits s) where
     step-passes-limits =
         record {
           limits = p .limits;
+          scaled = p .scaled;
           steps = left;
           light = p .light;
           small = next .within .z-small;
@@ -105,4 +128,4 @@ module _ (s : State) (p : PassesLimits s) where
 pub steps-pass-limits : StepsPassLimits
 unfolding steps
 steps-pass-limits s zero p l = p
-steps-pass-limits s (suc j) p l = step-passes-limits (steps s j) (steps-pass-limits s j p (omega arith)) (rw (steps-header s j, steps-k s j) (omega arith))
+steps-pass-limits s (suc j) p l = step-passes-limits (steps s j) (steps-pass-limits s j p (omega arith)) (rw (steps-header s j, steps-scale s j, steps-k s j) (omega arith))

@@ -4,43 +4,40 @@ use mathlib.Core.Path.{_≡_}
 use mathlib.Core.List.{List}
 use Prim.Native.Nat.{ℕ, _^_, _<_, _≤_}
 use native.Mathlib.Omega.{arith}
-use lib.IntN.{ℤ, natAbs}
-use lib.Pow.{pow-pos}
+use lib.IntN.{ℤ, pos, natAbs}
 use Rattle.integers.specs.Flat.{at, entry}
 use Rattle.integers.specs.Sum.{weight}
-use Rattle.integers.proofs.Product.{abs-dot, entry-le-weight}
+use Rattle.integers.proofs.Product.{abs-dot, dot-scale, entry-le-weight}
 use Rattle.job.specs.Rules.{bound-over, bound-under}
 use Rattle.recurrence.specs.Recurrence.{shifted, LightRows, WithinBounds}
-use Rattle.recurrence.proofs.Row.{light-less}
 use Rattle.recurrence.proofs.Theorems.{bound}
 use Rattle.stepping.specs.Inner.{MayChoose, Signs, Summed, MaySumRows, MayTabulate}
-use Rattle.stepping.proofs.Chosen.{unit-within}
+use Rattle.stepping.specs.Steps.{finer}
 
 -- document 01's limits on a job and on its numbers: light rows, residuals within their bound and digits
--- within p
-pub record KeepsLimits (n r p u : ℕ) (g z d : List ℤ) : Type 0 where
+-- within p. u is the unit of the residuals, and c of these make one unit of the matrix.
+pub record KeepsLimits (n r c p u : ℕ) (g z d : List ℤ) : Type 0 where
   pub order : n ≤ 16
   pub radix : (2 ≤ r) × (r ≤ 16)
+  pub factor : c ≤ 16
   pub largest : p ≤ 15
-  pub light : LightRows n r p u bound-over bound-under (entry g)
+  pub unit-most : u ≤ 2 ^ 44
+  pub weights : (i : ℕ) → i < n → weight n (entry g i) ≤ 2 ^ 40
+  pub light : LightRows n r p u bound-over bound-under (finer c (entry g))
   pub within : WithinBounds n p u bound-over bound-under (at z) (at d)
 
-module _ {n r p f : ℕ} {g z d : List ℤ} (bits : f ≤ 40) (h : KeepsLimits n r p (2 ^ f) g z d) where
-  weight-small : (i : ℕ) → i < n → weight n (entry g i) ≤ 2 ^ 40
-  weight-small i l =
-      omega (arith, light-less r p (2 ^ f) bound-over bound-under (weight n (entry g i)) (h .radix .0) (omega arith) (pow-pos f) (h .light .rows i l), unit-within f bits)
-
+module _ {n r c p u : ℕ} {g z d : List ℤ} (h : KeepsLimits n r c p u g z d) where
   pub may-sum-rows : MaySumRows n g d
   may-sum-rows i l =
       record {
         row = omega (arith, h .order);
         order = h .order;
-        light = weight-small i l;
+        light = h .weights i l;
         digits = λ j m. omega (arith, h .within .d-small j m, h .largest);
       }
 
   pub may-tabulate : MayTabulate n g
-  may-tabulate i j l m = omega (arith, entry-le-weight n (entry g i) j m, weight-small i l)
+  may-tabulate i j l m = omega (arith, entry-le-weight n (entry g i) j m, h .weights i l)
 
   -- with digits of radix 2
   pub digits-signs : p ≡ 1 → Signs n d
@@ -49,16 +46,17 @@ module _ {n r p f : ℕ} {g z d : List ℤ} (bits : f ≤ 40) (h : KeepsLimits n
   -- s has the rows' sums
   module _ {s : List ℤ} (sums : Summed n g d s) where
     sum-small : (i : ℕ) → i < n → natAbs (at s i) ≤ 2 ^ 48
-    sum-small i l = rw (sums .rows i l) (omega (arith, abs-dot n (entry g i) (at d) 15 (may-sum-rows i l .digits), weight-small i l))
+    sum-small i l = rw (sums .rows i l) (omega (arith, abs-dot n (entry g i) (at d) 15 (may-sum-rows i l .digits), h .weights i l))
 
-    pub may-choose-from : MayChoose n r p (2 ^ f) z s
+    pub may-choose-from : MayChoose n r c p u z s
     unfolding shifted
     may-choose-from =
         record {
           order = h .order;
           radix = h .radix .1;
+          factor = h .factor;
           largest = h .largest;
-          residuals = λ i l. omega (arith, h .within .z-small i l, unit-within f bits);
+          residuals = λ i l. omega (arith, h .within .z-small i l, h .unit-most);
           sums = sum-small;
-          bound = λ i l. rw (sums .rows i l) (bound (h .light) (h .within) i l);
+          bound = λ i l. rw (sums .rows i l, ← dot-scale n (pos c) (entry g i) (at d)) (bound (h .light) (h .within) i l);
         }

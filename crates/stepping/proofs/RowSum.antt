@@ -76,17 +76,27 @@ module _ {g d : List ℤ} {i n : ℕ} (h : MaySum g i n d) where
   pub row-stored : (s : ℤ) → s ≡ dot n (entry g i) (at d) → toZ w64 (ofZ w64 s) ≡ dot n (entry g i) (at d)
   row-stored s es = let a = known s (dot n (entry g i) (at d)) (2 ^ 48) es (part-small n (omega arith)) in machine-eq (search machs depth 9) tt refl
 
--- ---- w, of a row's residual z and its sum s
+-- ---- w, of a row's residual z and its sum s, which is c units
 
-module _ (z s : ℤ) (r : ℕ) (hr : r ≤ 16) (hz : Within z (2 ^ 40)) (hs : Within s (2 ^ 48)) where
+module _ (z s : ℤ) (r c : ℕ) (hr : r ≤ 16) (hc : c ≤ 16) (hz : Within z (2 ^ 44)) (hs : Within s (2 ^ 48)) where
   abbrev the-radix : Machine (toZ w64 r)
   the-radix = cast w64 r 16 hr
 
-  pub added-fits : SFits w64 (toZ w64 (ofZ w64 z) +ℤ toZ w64 (ofZ w64 s))
-  added-fits = machine-fits (search machs depth 9) tt
+  abbrev the-factor : Machine (toZ w64 c)
+  the-factor = cast w64 c 16 hc
 
-  pub shifted-fits : SFits w64 (toZ w64 r *ℤ toZ w64 (ofZ w64 (toZ w64 (ofZ w64 z) +ℤ toZ w64 (ofZ w64 s))))
-  shifted-fits = let b = the-radix in machine-fits (search machs depth 9) tt
+  -- the sum in the unit of residuals
+  abbrev finer-sum : ℤ
+  finer-sum = toZ w64 c *ℤ toZ w64 (ofZ w64 s)
 
-  pub shifted-is : toZ w64 (ofZ w64 (toZ w64 r *ℤ toZ w64 (ofZ w64 (toZ w64 (ofZ w64 z) +ℤ toZ w64 (ofZ w64 s))))) ≡ pos r *ℤ (z +ℤ s)
-  shifted-is = let b = the-radix in machine-eq (search machs depth 9) tt refl
+  pub finer-fits : SFits w64 finer-sum
+  finer-fits = let a = the-factor in machine-fits (search machs depth 9) tt
+
+  pub added-fits : SFits w64 (toZ w64 (ofZ w64 z) +ℤ toZ w64 (ofZ w64 finer-sum))
+  added-fits = let a = the-factor in machine-fits (search machs depth 12) tt
+
+  pub shifted-fits : SFits w64 (toZ w64 r *ℤ toZ w64 (ofZ w64 (toZ w64 (ofZ w64 z) +ℤ toZ w64 (ofZ w64 finer-sum))))
+  shifted-fits = let a = the-factor in let b = the-radix in machine-fits (search machs depth 15) tt
+
+  pub shifted-is : toZ w64 (ofZ w64 (toZ w64 r *ℤ toZ w64 (ofZ w64 (toZ w64 (ofZ w64 z) +ℤ toZ w64 (ofZ w64 finer-sum))))) ≡ pos r *ℤ (z +ℤ pos c *ℤ s)
+  shifted-is = let a = the-factor in let b = the-radix in machine-eq (search machs depth 15) tt refl

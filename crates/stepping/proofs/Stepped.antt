@@ -10,13 +10,14 @@ use lib.IntN.{ℤ, pos, natAbs}
 use lib.ListN.{length, set, replicate, getD-replicate, List·getD-eq-default}
 use lib.Seq.{ext-getD}
 use Rattle.integers.proofs.Maximum.{le-or-lt}
+use Rattle.integers.proofs.Product.{dot-scale}
 use Rattle.recurrence.specs.Recurrence.{select, shifted, next-digit, next-residual}
 use Rattle.recurrence.proofs.Selection.{select-selects}
 use Rattle.recurrence.proofs.Theorems.{bounds-kept-next}
 use Rattle.integers.specs.Flat.{at, entry, stores}
 use Rattle.integers.proofs.Stores.{stores-zero, stores-suc, length-stores, stores-other, stores-at}
 use Rattle.job.specs.Rules.{bound-over, bound-under}
-use Rattle.stepping.specs.Steps.{filled, stepped-digits, stepped-residuals}
+use Rattle.stepping.specs.Steps.{filled, finer, stepped-digits, stepped-residuals}
 use Rattle.stepping.specs.Inner.{digit-from, residual-from, Vector, row-dot, Summed}
 use Rattle.stepping.proofs.Limits.{KeepsLimits}
 
@@ -82,32 +83,32 @@ filled-vector f {n} {v} h =
 
 -- ---- a step
 
-module _ (n r p u : ℕ) (g z d : List ℤ) where
-  pub length-stepped-digits : length (stepped-digits n r p u g z d) ≡ 16
+module _ (n r c p u : ℕ) (g z d : List ℤ) where
+  pub length-stepped-digits : length (stepped-digits n r c p u g z d) ≡ 16
   unfolding stepped-digits
-  length-stepped-digits = length-filled (next-digit n r (select p u) (entry g) (at z) (at d)) (replicate 16 (pos 0)) n
+  length-stepped-digits = length-filled (next-digit n r (select p u) (finer c (entry g)) (at z) (at d)) (replicate 16 (pos 0)) n
 
-  pub length-stepped-residuals : length (stepped-residuals n r p u g z d) ≡ length z
+  pub length-stepped-residuals : length (stepped-residuals n r c p u g z d) ≡ length z
   unfolding stepped-residuals
-  length-stepped-residuals = length-filled (next-residual n r u (select p u) (entry g) (at z) (at d)) z n
+  length-stepped-residuals = length-filled (next-residual n r u (select p u) (finer c (entry g)) (at z) (at d)) z n
 
   -- in the rows below n
-  pub stepped-digit : (i : ℕ) → i < n → i < 16 → at (stepped-digits n r p u g z d) i ≡ next-digit n r (select p u) (entry g) (at z) (at d) i
+  pub stepped-digit : (i : ℕ) → i < n → i < 16 → at (stepped-digits n r c p u g z d) i ≡ next-digit n r (select p u) (finer c (entry g)) (at z) (at d) i
   unfolding stepped-digits
-  stepped-digit i l h = filled-row (next-digit n r (select p u) (entry g) (at z) (at d)) (replicate 16 (pos 0)) n i l h
+  stepped-digit i l h = filled-row (next-digit n r (select p u) (finer c (entry g)) (at z) (at d)) (replicate 16 (pos 0)) n i l h
 
-  pub stepped-residual : (i : ℕ) → i < n → i < length z → at (stepped-residuals n r p u g z d) i ≡ next-residual n r u (select p u) (entry g) (at z) (at d) i
+  pub stepped-residual : (i : ℕ) → i < n → i < length z → at (stepped-residuals n r c p u g z d) i ≡ next-residual n r u (select p u) (finer c (entry g)) (at z) (at d) i
   unfolding stepped-residuals
-  stepped-residual i l h = filled-row (next-residual n r u (select p u) (entry g) (at z) (at d)) z n i l h
+  stepped-residual i l h = filled-row (next-residual n r u (select p u) (finer c (entry g)) (at z) (at d)) z n i l h
 
   -- past them
-  pub stepped-digit-past : (i : ℕ) → n ≤ i → at (stepped-digits n r p u g z d) i ≡ pos 0
+  pub stepped-digit-past : (i : ℕ) → n ≤ i → at (stepped-digits n r c p u g z d) i ≡ pos 0
   unfolding stepped-digits
-  stepped-digit-past i h = filled-is-vector (next-digit n r (select p u) (entry g) (at z) (at d)) (vector-zeros n) .past i h
+  stepped-digit-past i h = filled-is-vector (next-digit n r (select p u) (finer c (entry g)) (at z) (at d)) (vector-zeros n) .past i h
 
-  pub stepped-residual-past : (i : ℕ) → n ≤ i → at (stepped-residuals n r p u g z d) i ≡ at z i
+  pub stepped-residual-past : (i : ℕ) → n ≤ i → at (stepped-residuals n r c p u g z d) i ≡ at z i
   unfolding stepped-residuals
-  stepped-residual-past i h = filled-past (next-residual n r u (select p u) (entry g) (at z) (at d)) z n i h
+  stepped-residual-past i h = filled-past (next-residual n r u (select p u) (finer c (entry g)) (at z) (at d)) z n i h
 
 -- the rows filled with their sums
 pub filled-summed : {n : ℕ} {g d s : List ℤ} (v : List ℤ) → length v ≡ 16 → n ≤ 16 → s ≡ filled (row-dot n g d) v n → Summed n g d s
@@ -115,29 +116,32 @@ filled-summed {n} {g} {d} {s} v size order e =
     record { rows = λ i l. rw e (filled-row (row-dot n g d) v n i l (omega (arith, size))) }
 
 -- chosen from the rows' sums, digits and residuals are those of the step
-module _ {n : ℕ} {g d s : List ℤ} (sums : Summed n g d s) (r p u : ℕ) (z : List ℤ) where
-  pub filled-stepped : {v : List ℤ} → Vector n v → filled (digit-from r p u z s) v n ≡ stepped-digits n r p u g z d
+module _ {n : ℕ} {g d s : List ℤ} (sums : Summed n g d s) (r c p u : ℕ) (z : List ℤ) where
+  pub filled-stepped : {v : List ℤ} → Vector n v → filled (digit-from r c p u z s) v n ≡ stepped-digits n r c p u g z d
   unfolding stepped-digits next-digit shifted
-  filled-stepped h = filled-vector (digit-from r p u z s) h ∙ filled-ext _ _ _ n (λ i l. rw (sums .rows i l) refl)
+  filled-stepped h = filled-vector (digit-from r c p u z s) h ∙ filled-ext _ _ _ n (λ i l. rw (sums .rows i l, dot-scale n (pos c) (entry g i) (at d)) refl)
 
-  pub filled-left : filled (residual-from r p u z s) z n ≡ stepped-residuals n r p u g z d
+  pub filled-left : filled (residual-from r c p u z s) z n ≡ stepped-residuals n r c p u g z d
   unfolding stepped-residuals next-residual next-digit shifted
-  filled-left = filled-ext _ _ _ n (λ i l. rw (sums .rows i l) refl)
+  filled-left = filled-ext _ _ _ n (λ i l. rw (sums .rows i l, dot-scale n (pos c) (entry g i) (at d)) refl)
 
 -- a step leaves what can make the next one; z′ and d′ are what it gave
-pub keeps-limits-next : {n r p u : ℕ} {g z d z′ d′ : List ℤ} → 0 < u → KeepsLimits n r p u g z d →
-    z′ ≡ stepped-residuals n r p u g z d → d′ ≡ stepped-digits n r p u g z d → KeepsLimits n r p u g z′ d′
+pub keeps-limits-next : {n r c p u : ℕ} {g z d z′ d′ : List ℤ} → 0 < u → KeepsLimits n r c p u g z d →
+    z′ ≡ stepped-residuals n r c p u g z d → d′ ≡ stepped-digits n r c p u g z d → KeepsLimits n r c p u g z′ d′
 unfolding stepped-residuals stepped-digits
-keeps-limits-next {n} {r} {p} {u} {g} {z} {d} hu h ez ed =
+keeps-limits-next {n} {r} {c} {p} {u} {g} {z} {d} hu h ez ed =
     let k = bounds-kept-next (select-selects p u hu) (h .light) (h .within) in
     rw (ez, ed)
     (record {
       order = h .order;
       radix = h .radix;
+      factor = h .factor;
       largest = h .largest;
+      unit-most = h .unit-most;
+      weights = h .weights;
       light = h .light;
       within = record {
-        z-small = filled-each (next-residual n r u (select p u) (entry g) (at z) (at d)) z (λ x. bound-under * natAbs x ≤ bound-over * u) n (omega arith) (k .z-small);
-        d-small = filled-each (next-digit n r (select p u) (entry g) (at z) (at d)) (replicate 16 (pos 0)) (λ x. natAbs x ≤ p) n (omega arith) (k .d-small);
+        z-small = filled-each (next-residual n r u (select p u) (finer c (entry g)) (at z) (at d)) z (λ x. bound-under * natAbs x ≤ bound-over * u) n (omega arith) (k .z-small);
+        d-small = filled-each (next-digit n r (select p u) (finer c (entry g)) (at z) (at d)) (replicate 16 (pos 0)) (λ x. natAbs x ≤ p) n (omega arith) (k .d-small);
       };
     })

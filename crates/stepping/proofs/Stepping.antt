@@ -20,16 +20,15 @@ use Rattle.integers.proofs.Stores.{length-stores}
 use Rattle.integers.proofs.Maximum.{le-or-lt}
 use Rattle.job.specs.Header.{radix}
 use Rattle.job.proofs.Limits as limits
-use Rattle.job.specs.Rules.{inner-bits}
 use Rattle.job.specs.declared.Header.{Header}
-use Rattle.stepping.specs.Steps.{filled, last-digits, chosen-digits, residuals-left, digits-stored, one-step, steps}
+use Rattle.stepping.specs.Steps.{filled, last-digits, state-factor, chosen-digits, residuals-left, digits-stored, one-step, steps}
 use Rattle.stepping.specs.Inner.{digit-from, residual-from, Vector, MayChoose, row-dot, Summed, MaySumRows, Signs, Between, MayStepOnce, Stepped, MayStep}
 use Rattle.stepping.proofs.Limits.{KeepsLimits, may-sum-rows, digits-signs, may-choose-from}
 use Rattle.stepping.proofs.Stepped.{vector-zeros, length-stepped-digits, stepped-digit-past, filled-summed, length-filled, filled-stepped, filled-left, keeps-limits-next}
 use Rattle.state.specs.State.{state-unit, digits-of, PassesLimits}
 use Rattle.state.specs.Inner.{state-of}
 use Rattle.state.specs.declared.State.{State}
-use Rattle.stepping.proofs.Steps.{steps-header, steps-busy, steps-k, stored-same}
+use Rattle.stepping.proofs.Steps.{steps-header, steps-scale, steps-busy, steps-k, stored-same}
 use Rattle.stepping.proofs.Kept.{steps-pass-limits, keeps-limits}
 
 -- ---- a vector of n rows in an array of 16
@@ -69,26 +68,26 @@ length-digits s zero = refl
 length-digits s (suc j) =
     length-stores (steps s j .digits) (λ i. 16 * steps s j .k + i) (at (chosen-digits (steps s j))) (steps s j .header .n) ∙ length-digits s j
 
-state-is : (a : State) {b : Bool} {h : Header} {k : ℕ} {g z ds : List ℤ} → b ≡ a .busy → h ≡ a .header → k ≡ a .k → g ≡ a .g → z ≡ a .z → ds ≡ a .digits
-    → record { busy = b; header = h; k = k; g = g; z = z; digits = ds } ≡ a
-state-is a eb eh ek eg ez ed = rw (eb, eh, ek, eg, ez, ed) refl
+state-is : (a : State) {b : Bool} {h : Header} {c k : ℕ} {g z ds : List ℤ} → b ≡ a .busy → h ≡ a .header → c ≡ a .scale → k ≡ a .k → g ≡ a .g → z ≡ a .z → ds ≡ a .digits
+    → record { busy = b; header = h; scale = c; k = k; g = g; z = z; digits = ds } ≡ a
+state-is a eb eh ec ek eg ez ed = rw (eb, eh, ec, ek, eg, ez, ed) refl
 
 -- a job with no steps made, put together from its parts
-pub fresh-whole : (s : State) → s .busy ≡ true → s .k ≡ 0 → state-of true (s .header) 0 (s .g) (s .z) (s .digits) ≡ s
-fresh-whole s e f = state-is s (sym e) refl (sym f) refl refl refl
+pub fresh-whole : (s : State) → s .busy ≡ true → s .k ≡ 0 → state-of true (s .header) (s .scale) 0 (s .g) (s .z) (s .digits) ≡ s
+fresh-whole s e f = state-is s (sym e) refl refl (sym f) refl refl refl
 
 -- a busy state put together from its parts
-pub busy-whole : (s : State) → s .busy ≡ true → state-of true (s .header) (s .k) (s .g) (s .z) (s .digits) ≡ s
-busy-whole s e = state-is s (sym e) refl refl refl refl refl
+pub busy-whole : (s : State) → s .busy ≡ true → state-of true (s .header) (s .scale) (s .k) (s .g) (s .z) (s .digits) ≡ s
+busy-whole s e = state-is s (sym e) refl refl refl refl refl refl
 
 -- the state put together from the arrays after the last step
 pub steps-whole : (s : State) (j : ℕ) (z ds : List ℤ) → z ≡ steps s j .z → ds ≡ steps s j .digits
-    → record { busy = s .busy; header = s .header; k = s .k + j; g = s .g; z = z; digits = ds } ≡ steps s j
-steps-whole s j z ds ez ed = state-is (steps s j) (sym (steps-busy s j)) (sym (steps-header s j)) (sym (steps-k s j)) (sym (steps-g s j)) ez ed
+    → record { busy = s .busy; header = s .header; scale = s .scale; k = s .k + j; g = s .g; z = z; digits = ds } ≡ steps s j
+steps-whole s j z ds ez ed = state-is (steps s j) (sym (steps-busy s j)) (sym (steps-header s j)) (sym (steps-scale s j)) (sym (steps-k s j)) (sym (steps-g s j)) ez ed
 
 module _ {s : State} {made : ℕ} (b : MayStep s made) where
   pub steps-have-room : s .k + made ≤ 60
-  steps-have-room = omega (arith, b .left, limits.last-small (s .header) (b .passes .limits))
+  steps-have-room = omega (arith, b .left, limits.last-small (s .header) (s .scale) (b .passes .scaled))
 
 -- ---- one step
 
@@ -98,10 +97,10 @@ rows-summed {n} {g} {d} v size order e = (rw e (length-filled (row-dot n g d) v 
 
 -- a step can be made with the digits of the step before
 pub first-limits : {s : State} {before : List ℤ} → PassesLimits s → before ≡ last-digits s
-    → KeepsLimits (s .header .n) (radix (s .header .code)) (s .header .p) (state-unit s) (s .g) (s .z) before
+    → KeepsLimits (s .header .n) (radix (s .header .code)) (state-factor s) (s .header .p) (state-unit s) (s .g) (s .z) before
 first-limits b e = rw e (keeps-limits _ b)
 
-module _ {s : State} {r bits : ℕ} {before chosen sums : List ℤ} (a : MayStepOnce s r bits before chosen sums) where
+module _ {s : State} {r c bits : ℕ} {before chosen sums : List ℤ} (a : MayStepOnce s r c bits before chosen sums) where
   abbrev n : ℕ
   n = s .header .n
 
@@ -111,39 +110,38 @@ module _ {s : State} {r bits : ℕ} {before chosen sums : List ℤ} (a : MayStep
   abbrev u : ℕ
   u = 2 ^ bits
 
-  few-bits : bits ≤ 40
-  few-bits = rw (a .bits-are) (limits.inner-bits-most (s .header) (a .may .passes .limits))
+  step-limits : KeepsLimits n r c p u (s .g) (s .z) before
+  step-limits = rw (a .radix-is, a .factor-is, a .bits-are .0) (first-limits (a .may .passes) (a .between .last))
 
-  step-limits : KeepsLimits n r p u (s .g) (s .z) before
-  step-limits = rw (a .radix-is, a .bits-are) (first-limits (a .may .passes) (a .between .last))
-
-  pub may-choose : (bits ≤ 40) × MayChoose n r p u (s .z) sums
-  may-choose = (few-bits, may-choose-from few-bits step-limits (a .between .summed))
+  pub may-choose : (bits ≤ 44) × MayChoose n r c p u (s .z) sums
+  may-choose = (a .bits-are .1, may-choose-from step-limits (a .between .summed))
 
   -- `new` has what `choose` left in the vector being chosen
-  module _ {new : List ℤ} (ec : new ≡ filled (digit-from r p u (s .z) sums) chosen n) where
+  module _ {new : List ℤ} (ec : new ≡ filled (digit-from r c p u (s .z) sums) chosen n) where
     new-is : new ≡ chosen-digits s
     new-is =
-        ec ∙ filled-stepped (a .between .summed) r p u (s .z) (a .between .free) ∙ rw (a .radix-is, a .bits-are, a .between .last) refl
+        ec ∙ filled-stepped (a .between .summed) r c p u (s .z) (a .between .free)
+        ∙ rw (a .radix-is, a .factor-is, a .bits-are .0, a .between .last) refl
 
-    next-limits : KeepsLimits n (radix (s .header .code)) p u (s .g) (residuals-left s) new
-    next-limits = rw (a .bits-are) (keeps-limits-next (pow-pos (inner-bits (s .header))) (keeps-limits s (a .may .passes)) refl new-is)
+    next-limits : KeepsLimits n (radix (s .header .code)) (state-factor s) p (state-unit s) (s .g) (residuals-left s) new
+    next-limits =
+        keeps-limits-next (rw (a .bits-are .0) at (pow-pos bits)) (keeps-limits s (a .may .passes)) refl new-is
 
     -- the rows can be summed with it
     pub may-sum : MaySumRows n (s .g) new
-    may-sum = may-sum-rows few-bits next-limits
+    may-sum = may-sum-rows next-limits
 
     pub new-signs : p ≡ 1 → Signs n new
-    new-signs e = digits-signs few-bits next-limits e
+    new-signs e = digits-signs next-limits e
 
     -- and the step is made: `z` and `ds` have what `choose` and `store_digits` left, and `sums′` the rows'
     -- sums
-    pub stepped : {z ds sums′ : List ℤ} → z ≡ filled (residual-from r p u (s .z) sums) (s .z) n → ds ≡ digits-stored n (s .k) (s .digits) new
+    pub stepped : {z ds sums′ : List ℤ} → z ≡ filled (residual-from r c p u (s .z) sums) (s .z) n → ds ≡ digits-stored n (s .k) (s .digits) new
         → Summed n (s .g) new sums′ → Stepped s before z ds new before sums′
     unfolding one-step
     stepped ez ed es =
         record {
-          residuals = ez ∙ filled-left (a .between .summed) r p u (s .z) ∙ rw (a .radix-is, a .bits-are, a .between .last) refl;
+          residuals = ez ∙ filled-left (a .between .summed) r c p u (s .z) ∙ rw (a .radix-is, a .factor-is, a .bits-are .0, a .between .last) refl;
           digits = ed ∙ rw new-is refl;
           newest = new-is;
           exchanged = refl;
@@ -170,7 +168,7 @@ module _ {s : State} {made j : ℕ} {ds z before chosen sums : List ℤ} (b : Ma
 
   -- the state that the arrays make
   abbrev now-is : State
-  now-is = state-of (s .busy) (s .header) (s .k + j) (s .g) z ds
+  now-is = state-of (s .busy) (s .header) (s .scale) (s .k + j) (s .g) z ds
 
   whole : now-is ≡ S
   whole = steps-whole s j z ds (h .residuals) (h .digits)
@@ -180,17 +178,19 @@ module _ {s : State} {made j : ℕ} {ds z before chosen sums : List ℤ} (b : Ma
       record {
         passes = steps-pass-limits s j (b .passes) (omega (arith, b .left));
         room = length-digits s j ∙ b .room;
-        left = rw (steps-header s j, steps-k s j) (omega (arith, b .left));
+        left = rw (steps-header s j, steps-scale s j, steps-k s j) (omega (arith, b .left));
       }
 
   -- one more can be made of it
-  pub reached-may : (r bits : ℕ) → r ≡ radix (s .header .code) → bits ≡ inner-bits (s .header) → MayStepOnce now-is r bits before chosen sums
-  reached-may r bits e f =
+  pub reached-may : (r c bits : ℕ) → r ≡ radix (s .header .code) → c ≡ state-factor s → (2 ^ bits ≡ state-unit s) × (bits ≤ 44)
+      → MayStepOnce now-is r c bits before chosen sums
+  reached-may r c bits e o f =
       rw whole
       (record {
         may = left;
         radix-is = e ∙ rw (steps-header s j) refl;
-        bits-are = f ∙ rw (steps-header s j) refl;
+        factor-is = o ∙ rw (steps-header s j, steps-scale s j) refl;
+        bits-are = (f .0 ∙ rw (steps-header s j, steps-scale s j) refl, f .1);
         between = h .between;
       })
 
@@ -199,8 +199,8 @@ module _ {s : State} {made j : ℕ} {ds z before chosen sums : List ℤ} (b : Ma
   unfolding one-step
   copied =
       stored-copied (S .header .n) (S .k) (S .digits) (chosen-digits S) (left .passes .limits .order-most)
-      (length-stepped-digits (S .header .n) (radix (S .header .code)) (S .header .p) (state-unit S) (S .g) (S .z) (last-digits S))
-      (stepped-digit-past (S .header .n) (radix (S .header .code)) (S .header .p) (state-unit S) (S .g) (S .z) (last-digits S))
+      (length-stepped-digits (S .header .n) (radix (S .header .code)) (state-factor S) (S .header .p) (state-unit S) (S .g) (S .z) (last-digits S))
+      (stepped-digit-past (S .header .n) (radix (S .header .code)) (state-factor S) (S .header .p) (state-unit S) (S .g) (S .z) (last-digits S))
       (omega (arith, left .room, steps-have-room left))
 
   pub reached-next : {ds′ z′ before′ chosen′ sums′ : List ℤ} → Stepped now-is before z′ ds′ before′ chosen′ sums′ → Reached s (j + 1) ds′ z′ before′ chosen′ sums′

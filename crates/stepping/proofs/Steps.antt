@@ -18,6 +18,11 @@ unfolding steps one-step
 steps-header s zero = refl
 steps-header s (suc j) = steps-header s j
 
+pub steps-scale : (s : State) (j : ℕ) → steps s j .scale ≡ s .scale
+unfolding steps one-step
+steps-scale s zero = refl
+steps-scale s (suc j) = steps-scale s j
+
 pub steps-busy : (s : State) (j : ℕ) → steps s j .busy ≡ s .busy
 unfolding steps one-step
 steps-busy s zero = refl

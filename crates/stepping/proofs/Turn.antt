@@ -22,31 +22,31 @@ use Rattle.stepping.proofs.Stepped.{filled-past}
 
 -- A turn for row i: `v` are the residuals as the loop has them, those of the rows below i new and the
 -- others still z's.
-pub record Begun (z s : List ℤ) (n r p f i : ℕ) (v : List ℤ) : Type 0 where
-  pub bits : f ≤ 40
-  pub may : MayChoose n r p (2 ^ f) z s
+pub record Begun (z s : List ℤ) (n r c p f i : ℕ) (v : List ℤ) : Type 0 where
+  pub bits : f ≤ 44
+  pub may : MayChoose n r c p (2 ^ f) z s
   pub below : i < n
-  pub so-far : v ≡ filled (residual-from r p (2 ^ f) z s) z i
+  pub so-far : v ≡ filled (residual-from r c p (2 ^ f) z s) z i
 
-module _ {z s : List ℤ} {n r p f i : ℕ} {v : List ℤ} (h : Begun z s n r p f i v) where
+module _ {z s : List ℤ} {n r c p f i : ℕ} {v : List ℤ} (h : Begun z s n r c p f i v) where
   -- row i's numbers
   abbrev W : ℤ
-  W = shifted-by r z s i
+  W = shifted-by r c z s i
 
   abbrev D : ℤ
-  D = digit-from r p (2 ^ f) z s i
+  D = digit-from r c p (2 ^ f) z s i
 
   abbrev R : ℤ
-  R = residual-from r p (2 ^ f) z s i
+  R = residual-from r c p (2 ^ f) z s i
 
   -- and how large they are
-  unit-bound : 2 ^ f ≤ 2 ^ 40
+  unit-bound : 2 ^ f ≤ 2 ^ 44
   unit-bound = unit-within f (h .bits)
 
   W-bound : bound-under * natAbs W ≤ (bound-under * p + bound-over) * 2 ^ f
   W-bound = h .may .bound i (h .below)
 
-  W-small : natAbs W ≤ 2 ^ 45
+  W-small : natAbs W ≤ 2 ^ 49
   W-small = let k : 2 * p + 1 ≤ 31 = omega (arith, h .may .largest) in omega (arith, W-bound, mul-le-mul k unit-bound)
 
   rule : Selects p (2 ^ f) bound-over bound-under (select p (2 ^ f))
@@ -55,14 +55,14 @@ module _ {z s : List ℤ} {n r p f i : ℕ} {v : List ℤ} (h : Begun z s n r p 
   D-small : natAbs D ≤ 15
   D-small = omega (arith, rule .small W W-bound, h .may .largest)
 
-  R-small : natAbs R ≤ 2 ^ 40
+  R-small : natAbs R ≤ 2 ^ 44
   R-small = omega (arith, rule .left W W-bound, unit-bound)
 
   z-is : at v i ≡ at z i
-  z-is = rw (h .so-far) (filled-past (residual-from r p (2 ^ f) z s) z i i (omega arith))
+  z-is = rw (h .so-far) (filled-past (residual-from r c p (2 ^ f) z s) z i i (omega arith))
 
   abbrev the-z : Machine (at v i)
-  the-z = known (at v i) (at z i) (2 ^ 40) z-is (h .may .residuals i (h .below))
+  the-z = known (at v i) (at z i) (2 ^ 44) z-is (h .may .residuals i (h .below))
 
   abbrev the-s : Machine (at s i)
   the-s = bounded (at s i) (2 ^ 48) (h .may .sums i (h .below))
@@ -74,24 +74,24 @@ module _ {z s : List ℤ} {n r p f i : ℕ} {v : List ℤ} (h : Begun z s n r p 
   s-read = let a = the-s in machine-eq (search machs depth 9) tt refl
 
   -- what `shifted` asks
-  pub z-within : Within (toZ w64 (ofZ w64 (at v i))) (2 ^ 40)
+  pub z-within : Within (toZ w64 (ofZ w64 (at v i))) (2 ^ 44)
   z-within = let a = the-z in machine-within (search machs depth 9) tt
 
   pub s-within : Within (toZ w64 (ofZ w64 (at s i))) (2 ^ 48)
   s-within = let a = the-s in machine-within (search machs depth 9) tt
 
   -- `w` is what `shifted` gave
-  module _ (w : ℤ) (ew : w ≡ pos r *ℤ (toZ w64 (ofZ w64 (at v i)) +ℤ toZ w64 (ofZ w64 (at s i)))) where
+  module _ (w : ℤ) (ew : w ≡ pos r *ℤ (toZ w64 (ofZ w64 (at v i)) +ℤ pos c *ℤ toZ w64 (ofZ w64 (at s i)))) where
     w-is : w ≡ W
     w-is = ew ∙ rw (z-read, s-read) refl
 
     abbrev the-w : Machine w
-    the-w = known w W (2 ^ 45) w-is W-small
+    the-w = known w W (2 ^ 49) w-is W-small
 
     w-read : toZ w64 (ofZ w64 w) ≡ W
     w-read = let a = the-w in machine-eq (search machs depth 9) tt refl
 
-    pub w-within : Within (toZ w64 (ofZ w64 w)) (2 ^ 45)
+    pub w-within : Within (toZ w64 (ofZ w64 w)) (2 ^ 49)
     w-within = let a = the-w in machine-within (search machs depth 9) tt
 
     -- `q` is what `select` gave
@@ -116,4 +116,4 @@ module _ {z s : List ℤ} {n r p f i : ℕ} {v : List ℤ} (h : Begun z s n r p 
       y-is y e = e ∙ rw (w-read, q-read) refl
 
       pub residual-stored : (y : ℤ) → y ≡ toZ w64 (ofZ w64 w) -ℤ pos (2 ^ f) *ℤ toZ w64 (ofZ w64 q) → toZ w64 (ofZ w64 y) ≡ R
-      residual-stored y e = let a = known y R (2 ^ 40) (y-is y e) R-small in machine-eq (search machs depth 9) tt refl
+      residual-stored y e = let a = known y R (2 ^ 44) (y-is y e) R-small in machine-eq (search machs depth 9) tt refl

@@ -1,14 +1,14 @@
 -- What the contracts of inner functions cite; a reader of the promises can skip it. How rows are summed,
--- what a choice and a step ask, and what a step leaves. The unit is at most 2^40: so are a residual and a
--- row's weight, a row's sum is within 2^48, and w within 2^45.
+-- what a choice and a step ask, and what a step leaves. The unit of a frame's numbers is at most 2^40, and so
+-- is a row's weight; a row's sum is within 2^48. The unit of residuals is at most 2^44, and w within 2^49.
 use mathlib.Core.{Path._≡_, List.List, Bool.cond}
 use Prim.Native.Nat.{ℕ, _+_, _*_, _^_, _<_, _≤_, _/_, _%_}
 use lib.{IntN.ℤ, IntN.pos, IntN.natAbs, IntN._+ℤ_, IntN._-ℤ_, IntN._*ℤ_, ListN.length, ListN.getD, Dec.ltb}
 use Rattle.integers.specs.{Flat.at, Flat.entry, Sum.dot, Sum.weight}
-use Rattle.job.specs.{Rules.bound-over, Rules.bound-under, Rules.inner-bits, Header.radix}
+use Rattle.job.specs.{Rules.bound-over, Rules.bound-under, Header.radix}
 use Rattle.recurrence.specs.Recurrence.{select}
-use Rattle.state.specs.{declared.State.State, State.PassesLimits, State.state-last, State.all-steps}
-use Rattle.stepping.specs.Steps.{last-digits, chosen-digits, one-step}
+use Rattle.state.specs.{declared.State.State, State.PassesLimits, State.state-last, State.state-unit, State.all-steps}
+use Rattle.stepping.specs.Steps.{last-digits, state-factor, chosen-digits, one-step}
 
 -- ---- the sums
 
@@ -106,17 +106,17 @@ pub record MayAdd (t : List ℤ) (place : ℕ) (s : List ℤ) : Type 0 where
 abbrev pub added : (t : List ℤ) (place : ℕ) (s : List ℤ) (i : ℕ) → ℤ
 added t place s i = at s i +ℤ at t (place + i)
 
--- ---- the choice of one step, from the residuals z and the rows' sums s
+-- ---- the choice of one step, from the residuals z and the rows' sums s, which are c times as many units
 
 -- document 01's w of row i, its digit, and the residual that this leaves
-abbrev pub shifted-by : (r : ℕ) (z s : List ℤ) (i : ℕ) → ℤ
-shifted-by r z s i = pos r *ℤ (at z i +ℤ at s i)
+abbrev pub shifted-by : (r c : ℕ) (z s : List ℤ) (i : ℕ) → ℤ
+shifted-by r c z s i = pos r *ℤ (at z i +ℤ pos c *ℤ at s i)
 
-abbrev pub digit-from : (r p u : ℕ) (z s : List ℤ) (i : ℕ) → ℤ
-digit-from r p u z s i = select p u (shifted-by r z s i)
+abbrev pub digit-from : (r c p u : ℕ) (z s : List ℤ) (i : ℕ) → ℤ
+digit-from r c p u z s i = select p u (shifted-by r c z s i)
 
-abbrev pub residual-from : (r p u : ℕ) (z s : List ℤ) (i : ℕ) → ℤ
-residual-from r p u z s i = shifted-by r z s i -ℤ pos u *ℤ digit-from r p u z s i
+abbrev pub residual-from : (r c p u : ℕ) (z s : List ℤ) (i : ℕ) → ℤ
+residual-from r c p u z s i = shifted-by r c z s i -ℤ pos u *ℤ digit-from r c p u z s i
 
 -- a vector of n rows in an array of 16: 0 past row n
 pub record Vector (n : ℕ) (v : List ℤ) : Type 0 where
@@ -124,13 +124,14 @@ pub record Vector (n : ℕ) (v : List ℤ) : Type 0 where
   pub past : (i : ℕ) → n ≤ i → at v i ≡ pos 0
 
 -- a digit may be chosen in every row: |w| is at most p units and the residual bound more
-pub record MayChoose (n r p u : ℕ) (z s : List ℤ) : Type 0 where
+pub record MayChoose (n r c p u : ℕ) (z s : List ℤ) : Type 0 where
   pub order : n ≤ 16
   pub radix : r ≤ 16
+  pub factor : c ≤ 16
   pub largest : p ≤ 15
-  pub residuals : (i : ℕ) → i < n → natAbs (at z i) ≤ 2 ^ 40
+  pub residuals : (i : ℕ) → i < n → natAbs (at z i) ≤ 2 ^ 44
   pub sums : (i : ℕ) → i < n → natAbs (at s i) ≤ 2 ^ 48
-  pub bound : (i : ℕ) → i < n → bound-under * natAbs (shifted-by r z s i) ≤ (bound-under * p + bound-over) * u
+  pub bound : (i : ℕ) → i < n → bound-under * natAbs (shifted-by r c z s i) ≤ (bound-under * p + bound-over) * u
 
 -- ---- a step
 
@@ -148,11 +149,12 @@ pub record Between (s : State) (before chosen sums : List ℤ) : Type 0 where
   pub free : Vector (s .header .n) chosen
   pub summed : Summed (s .header .n) (s .g) before sums
 
--- what a step asks: s has a step left, r is its radix, and its residuals have so many fraction bits
-pub record MayStepOnce (s : State) (r bits : ℕ) (before chosen sums : List ℤ) : Type 0 where
+-- what a step asks: s has a step left, r is its radix, c is r^s, and its residuals have so many fraction bits
+pub record MayStepOnce (s : State) (r c bits : ℕ) (before chosen sums : List ℤ) : Type 0 where
   pub may : MayStep s 1
   pub radix-is : r ≡ radix (s .header .code)
-  pub bits-are : bits ≡ inner-bits (s .header)
+  pub factor-is : c ≡ state-factor s
+  pub bits-are : (2 ^ bits ≡ state-unit s) × (bits ≤ 44)
   pub between : Between s before chosen sums
 
 -- what it leaves: the residuals z and the digits ds of the state a step further, the two vectors exchanged,

@@ -3,14 +3,19 @@
 -- those of the later steps after them.
 use mathlib.Core.{Path._≡_, List.List}
 use Prim.Native.Nat.{ℕ, _+_, _*_, _<_, _≤_, zero, suc}
-use lib.{IntN.ℤ, IntN.pos, ListN.length, ListN.replicate}
+use lib.{IntN.ℤ, IntN.pos, IntN._*ℤ_, ListN.length, ListN.replicate}
 use Rattle.integers.specs.Flat.{at, entry, stores, flat-vector}
 use Rattle.recurrence.specs.Recurrence.{select, next-digit, next-residual, residual, digit}
-use Rattle.job.specs.{Header.radix, Rules.inner-unit, declared.Header.Header}
+use Rattle.job.specs.{Header.radix, Rules.scale-factor, Rules.inner-unit, declared.Header.Header}
 use Rattle.state.specs.{declared.State.State, State.PassesLimits, State.state-last, State.fresh, State.state-unit, State.digits-of, State.all-steps}
 use Rattle.system.specs.System.{matrix-of, right-side-of}
 
--- ---- one step on lists
+-- ---- one step on lists. A state's matrix is in units of 1 / 2^f, its residuals in units of 1 / (2^f × r^s):
+-- c is r^s, and u is 2^f × r^s
+
+-- the matrix G in the residuals' unit
+abbrev pub finer : (c : ℕ) (G : ℕ → ℕ → ℤ) (i j : ℕ) → ℤ
+finer c G i j = pos c *ℤ G i j
 
 -- v with f's values in the rows below n
 abbrev pub filled : (ℕ → ℤ) → List ℤ → ℕ → List ℤ
@@ -18,12 +23,13 @@ filled f v n = stores v (λ i. i) f n
 
 -- the digits of a step from residuals z and the digits d of the step before: in the rows below n the
 -- recurrence's by `select`, 0 past them
-unfoldable pub stepped-digits : (n r p u : ℕ) (g z d : List ℤ) → List ℤ
-stepped-digits n r p u g z d = filled (next-digit n r (select p u) (entry g) (at z) (at d)) (replicate 16 (pos 0)) n
+unfoldable pub stepped-digits : (n r c p u : ℕ) (g z d : List ℤ) → List ℤ
+stepped-digits n r c p u g z d =
+    filled (next-digit n r (select p u) (finer c (entry g)) (at z) (at d)) (replicate 16 (pos 0)) n
 
 -- its residuals: in the rows below n the recurrence's, past them as they were
-unfoldable pub stepped-residuals : (n r p u : ℕ) (g z d : List ℤ) → List ℤ
-stepped-residuals n r p u g z d = filled (next-residual n r u (select p u) (entry g) (at z) (at d)) z n
+unfoldable pub stepped-residuals : (n r c p u : ℕ) (g z d : List ℤ) → List ℤ
+stepped-residuals n r c p u g z d = filled (next-residual n r u (select p u) (finer c (entry g)) (at z) (at d)) z n
 
 -- ---- one step of a state
 
@@ -31,12 +37,18 @@ stepped-residuals n r p u g z d = filled (next-residual n r u (select p u) (entr
 abbrev pub last-digits : State → List ℤ
 last-digits s = flat-vector (s .header .n) (digits-of (s .digits) (s .k))
 
+-- r^s of a state
+abbrev pub state-factor : State → ℕ
+state-factor s = scale-factor (s .header) (s .scale)
+
 -- the digits chosen in the next step, and the residuals that they leave
 abbrev pub chosen-digits : State → List ℤ
-chosen-digits s = stepped-digits (s .header .n) (radix (s .header .code)) (s .header .p) (state-unit s) (s .g) (s .z) (last-digits s)
+chosen-digits s =
+    stepped-digits (s .header .n) (radix (s .header .code)) (state-factor s) (s .header .p) (state-unit s) (s .g) (s .z) (last-digits s)
 
 abbrev pub residuals-left : State → List ℤ
-residuals-left s = stepped-residuals (s .header .n) (radix (s .header .code)) (s .header .p) (state-unit s) (s .g) (s .z) (last-digits s)
+residuals-left s =
+    stepped-residuals (s .header .n) (radix (s .header .code)) (state-factor s) (s .header .p) (state-unit s) (s .g) (s .z) (last-digits s)
 
 -- the array of digits with those of the step after the k-th stored, in the rows below n
 abbrev pub digits-stored : (n k : ℕ) (ds d : List ℤ) → List ℤ
@@ -47,6 +59,7 @@ one-step s =
     record {
       busy = s .busy;
       header = s .header;
+      scale = s .scale;
       k = suc (s .k);
       g = s .g;
       z = residuals-left s;
@@ -57,21 +70,24 @@ unfoldable pub steps : State → ℕ → State
 steps s zero = s
 steps s (suc j) = one-step (steps s j)
 
--- ---- the digits and the residuals that document 01's steps give on a matrix G and right-hand sides B,
--- under the header h
+-- ---- the digits and the residuals that document 01's steps give on a matrix G and right-hand sides B, in
+-- units of 1 / 2^f, under the header h and at the scale s. To the recurrence the unit is 2^f × r^s: in it the
+-- right-hand sides divided by r^s are B, and the matrix is r^s times G.
 
-abbrev pub job-digit : (h : Header) (G : ℕ → ℕ → ℤ) (B : ℕ → ℤ) → ℕ → ℕ → ℤ
-job-digit h G B = digit (h .n) (radix (h .code)) (inner-unit h) (select (h .p) (inner-unit h)) G B
+abbrev pub job-digit : (h : Header) (s : ℕ) (G : ℕ → ℕ → ℤ) (B : ℕ → ℤ) → ℕ → ℕ → ℤ
+job-digit h s G B =
+    digit (h .n) (radix (h .code)) (inner-unit h s) (select (h .p) (inner-unit h s)) (finer (scale-factor h s) G) B
 
-abbrev pub job-residual : (h : Header) (G : ℕ → ℕ → ℤ) (B : ℕ → ℤ) → ℕ → ℕ → ℤ
-job-residual h G B = residual (h .n) (radix (h .code)) (inner-unit h) (select (h .p) (inner-unit h)) G B
+abbrev pub job-residual : (h : Header) (s : ℕ) (G : ℕ → ℕ → ℤ) (B : ℕ → ℤ) → ℕ → ℕ → ℤ
+job-residual h s G B =
+    residual (h .n) (radix (h .code)) (inner-unit h s) (select (h .p) (inner-unit h s)) (finer (scale-factor h s) G) B
 
 -- s holds the recurrence's numbers of the matrix G and the right-hand sides B, after the steps that it has
 -- made
 pub record Follows (G : ℕ → ℕ → ℤ) (B : ℕ → ℤ) (s : State) : Type 0 where
   pub matrix : (i j : ℕ) → i < s .header .n → j < s .header .n → entry (s .g) i j ≡ G i j
-  pub residuals : (i : ℕ) → i < s .header .n → at (s .z) i ≡ job-residual (s .header) G B (s .k) i
-  pub digits : (j i : ℕ) → j ≤ s .k → i < s .header .n → digits-of (s .digits) j i ≡ job-digit (s .header) G B j i
+  pub residuals : (i : ℕ) → i < s .header .n → at (s .z) i ≡ job-residual (s .header) (s .scale) G B (s .k) i
+  pub digits : (j i : ℕ) → j ≤ s .k → i < s .header .n → digits-of (s .digits) j i ≡ job-digit (s .header) (s .scale) G B j i
   pub later : (j i : ℕ) → s .k < j → j ≤ all-steps → i < s .header .n → digits-of (s .digits) j i ≡ pos 0
   pub room-z : length (s .z) ≡ 16
   pub room-digits : length (s .digits) ≡ 16 * all-steps

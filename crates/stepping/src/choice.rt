@@ -1,5 +1,6 @@
-// The choice of one step: a digit in each row, and the residual that it leaves. Residuals, sums and w are in
-// units of 1 / 2^f, so that 2^f stands for 1.
+// The choice of one step: a digit in each row, and the residual that it leaves. Residuals and w are in units
+// of 1 / 2^f, so that 2^f stands for 1; f is the fraction bits inside a state. A row's sum is in the unit of
+// the frame's numbers, of which one is c units here.
 ghost use mathlib.Core.Path.{_≡_};
 ghost use Prim.Native.Nat.{_+_, _*_, _/_, _^_, _<_, _≤_};
 ghost use lib.IntN.{pos, natAbs, _+ℤ_, _-ℤ_, _*ℤ_};
@@ -11,7 +12,7 @@ use job::ROWS;
 
 // 2^f, signed.
 fn unit(f: usize) -> i64
-    requires { ⌜ f ≤ 40 ⌝ }
+    requires { ⌜ f ≤ 44 ⌝ }
     ensures { λ u. ⌜ u ≡ pos (2 ^ f) ⌝ }
 {
     integers::to_signed(integers::pow2(f))
@@ -20,7 +21,7 @@ fn unit(f: usize) -> i64
 // |w|, signed. `integers::magnitude` gives it without a sign; here the compiler has to see that what is
 // divided is not negative.
 fn magnitude(w: i64) -> i64
-    requires { ⌜ Within w (2 ^ 45) ⌝ }
+    requires { ⌜ Within w (2 ^ 49) ⌝ }
     ensures { λ a. ⌜ a ≡ pos (natAbs w) ⌝ }
 {
     if w < 0 { 0 - w } else { w }
@@ -29,7 +30,7 @@ fn magnitude(w: i64) -> i64
 // The digit of w's magnitude: half a unit is added before the division cuts, while the magnitude is at most p
 // units. The dividend is never negative, so that the machine divides by a shift.
 fn digit_size(w: i64, f: usize, p: usize) -> i64
-    requires { ⌜ (f ≤ 40) × (p ≤ 15) × Within w (2 ^ 45) ⌝ }
+    requires { ⌜ (f ≤ 44) × (p ≤ 15) × Within w (2 ^ 49) ⌝ }
     ensures { λ q. ⌜ q ≡ pos (digit-size p (2 ^ f) (natAbs w)) ⌝ }
 {
     let size = magnitude(w);
@@ -42,24 +43,24 @@ fn digit_size(w: i64, f: usize, p: usize) -> i64
 // The digit that is taken off w: w over 2^f, rounded by magnitude, so that a tie goes away from zero on
 // both sides, and cut above p.
 fn select(w: i64, f: usize, p: usize) -> i64
-    requires { ⌜ (f ≤ 40) × (p ≤ 15) × Within w (2 ^ 45) ⌝ }
+    requires { ⌜ (f ≤ 44) × (p ≤ 15) × Within w (2 ^ 49) ⌝ }
     ensures { λ q. ⌜ q ≡ select p (2 ^ f) w ⌝ }
 {
     let q = digit_size(w, f, p);
     if w < 0 { 0 - q } else { q }
 }
 
-// Document 01's w: a row's residual z and its sum s, times r.
-fn shifted(z: i64, s: i64, r: usize) -> i64
-    requires { ⌜ (r ≤ 16) × Within z (2 ^ 40) × Within s (2 ^ 48) ⌝ }
-    ensures { λ w. ⌜ w ≡ pos r *ℤ (z +ℤ s) ⌝ }
+// Document 01's w: a row's residual z and its sum s, of c units each, times r.
+fn shifted(z: i64, s: i64, r: usize, c: usize) -> i64
+    requires { ⌜ (r ≤ 16) × (c ≤ 16) × Within z (2 ^ 44) × Within s (2 ^ 48) ⌝ }
+    ensures { λ w. ⌜ w ≡ pos r *ℤ (z +ℤ pos c *ℤ s) ⌝ }
 {
-    (r as i64) * (z + s)
+    (r as i64) * (z + (c as i64) * s)
 }
 
 // The residual that digit q leaves of w.
 fn residual_after(w: i64, q: i64, f: usize) -> i64
-    requires { ⌜ (f ≤ 40) × Within w (2 ^ 45) × Within q 15 ⌝ }
+    requires { ⌜ (f ≤ 44) × Within w (2 ^ 49) × Within q 15 ⌝ }
     ensures { λ z. ⌜ z ≡ w -ℤ pos (2 ^ f) *ℤ q ⌝ }
 {
     w - unit(f) * q
@@ -74,16 +75,17 @@ pub fn choose(
     new: &mut [i8; ROWS],
     n: usize,
     r: usize,
+    c: usize,
     f: usize,
     p: usize,
 )
-    requires { ⌜ (f ≤ 40) × MayChoose n r p (2 ^ f) (now z) (now s) ⌝ }
-    ensures digits { λ _. ⌜ now (new .exit) ≡ filled (digit-from r p (2 ^ f) (now (z .entry)) (now (s .entry))) (now (new .entry)) n ⌝ }
-    ensures residuals { λ _. ⌜ now (z .exit) ≡ filled (residual-from r p (2 ^ f) (now (z .entry)) (now (s .entry))) (now (z .entry)) n ⌝ }
+    requires { ⌜ (f ≤ 44) × MayChoose n r c p (2 ^ f) (now z) (now s) ⌝ }
+    ensures digits { λ _. ⌜ now (new .exit) ≡ filled (digit-from r c p (2 ^ f) (now (z .entry)) (now (s .entry))) (now (new .entry)) n ⌝ }
+    ensures residuals { λ _. ⌜ now (z .exit) ≡ filled (residual-from r c p (2 ^ f) (now (z .entry)) (now (s .entry))) (now (z .entry)) n ⌝ }
 {
     let mut i: usize = 0;
     while i < n {
-        let w = shifted(z[i], s[i], r);
+        let w = shifted(z[i], s[i], r, c);
         let q = select(w, f, p);
         new[i] = integers::narrow(q);
         z[i] = residual_after(w, q, f);

@@ -65,7 +65,9 @@ struct Vectors {
 // written.
 fn step_by_rows<'a>(
     h: Header,
+    scale: usize,
     r: usize,
+    c: usize,
     bits: usize,
     k: usize,
     g: &'a [i64; ENTRIES],
@@ -77,12 +79,12 @@ fn step_by_rows<'a>(
     z: &mut [i64; ROWS],
     digits: &mut [i8; DIGITS],
 ) -> Vectors
-    requires { ⌜ MayStepOnce (state-of true h k (now g) (now z) (now digits)) r bits before chosen (now sums) × Starts (h .n) (now g) (now starts) × Ends (h .n) (now g) (now ends) × (length (now sums) ≡ 16) ⌝ }
-    ensures step { λ v. ⌜ Stepped (state-of true h k (now (g .entry)) (now (z .entry)) (now (digits .entry))) before (now (z .exit)) (now (digits .exit)) (v .before) (v .chosen) (now (sums .exit)) ⌝ }
+    requires { ⌜ MayStepOnce (state-of true h scale k (now g) (now z) (now digits)) r c bits before chosen (now sums) × Starts (h .n) (now g) (now starts) × Ends (h .n) (now g) (now ends) × (length (now sums) ≡ 16) ⌝ }
+    ensures step { λ v. ⌜ Stepped (state-of true h scale k (now (g .entry)) (now (z .entry)) (now (digits .entry))) before (now (z .exit)) (now (digits .exit)) (v .before) (v .chosen) (now (sums .exit)) ⌝ }
     ensures size { λ _. ⌜ length (now (sums .exit)) ≡ 16 ⌝ }
 {
     let n = h.n;
-    choice::choose(sums, z, &mut chosen, n, r, bits, h.p);
+    choice::choose(sums, z, &mut chosen, n, r, c, bits, h.p);
     sums::row_sums(g, starts, ends, &chosen, n, sums);
     store_digits(digits, k, n, &chosen);
     Vectors {
@@ -94,19 +96,21 @@ fn step_by_rows<'a>(
 // Makes the steps with each row summed over the columns in which it has entries.
 fn run_by_rows(
     h: Header,
+    scale: usize,
     k: usize,
     made: usize,
     g: &[i64; ENTRIES],
     z: &mut [i64; ROWS],
     digits: &mut [i8; DIGITS],
 )
-    requires { ⌜ MayStep (state-of true h k (now g) (now z) (now digits)) made ⌝ }
-    ensures residuals { λ _. ⌜ now (z .exit) ≡ steps (state-of true h k (now (g .entry)) (now (z .entry)) (now (digits .entry))) made .z ⌝ }
-    ensures digits { λ _. ⌜ now (digits .exit) ≡ steps (state-of true h k (now (g .entry)) (now (z .entry)) (now (digits .entry))) made .digits ⌝ }
+    requires { ⌜ MayStep (state-of true h scale k (now g) (now z) (now digits)) made ⌝ }
+    ensures residuals { λ _. ⌜ now (z .exit) ≡ steps (state-of true h scale k (now (g .entry)) (now (z .entry)) (now (digits .entry))) made .z ⌝ }
+    ensures digits { λ _. ⌜ now (digits .exit) ≡ steps (state-of true h scale k (now (g .entry)) (now (z .entry)) (now (digits .entry))) made .digits ⌝ }
 {
     let n = h.n;
     let r = job::radix(h.code);
-    let bits = job::inner_bits(h);
+    let c = job::scale_factor(h, scale);
+    let bits = job::inner_bits(h, scale);
     let starts = sums::row_starts(g, n);
     let ends = sums::row_ends(g, n);
     let mut v = Vectors {
@@ -121,7 +125,9 @@ fn run_by_rows(
         let chosen = v.chosen;
         v = step_by_rows(
             h,
+            scale,
             r,
+            c,
             bits,
             k + j,
             g,
@@ -141,7 +147,9 @@ fn run_by_rows(
 // g, which the contract alone names.
 fn step_by_columns<'a>(
     h: Header,
+    scale: usize,
     r: usize,
+    c: usize,
     bits: usize,
     k: usize,
     g: &'a [i64; ENTRIES],
@@ -152,11 +160,11 @@ fn step_by_columns<'a>(
     z: &mut [i64; ROWS],
     digits: &mut [i8; DIGITS],
 ) -> Vectors
-    requires { ⌜ MayStepOnce (state-of true h k (now g) (now z) (now digits)) r bits before chosen (now sums) × Products (h .n) (now g) (now table) × (h .p ≡ 1) ⌝ }
-    ensures { λ v. ⌜ Stepped (state-of true h k (now (g .entry)) (now (z .entry)) (now (digits .entry))) before (now (z .exit)) (now (digits .exit)) (v .before) (v .chosen) (now (sums .exit)) ⌝ }
+    requires { ⌜ MayStepOnce (state-of true h scale k (now g) (now z) (now digits)) r c bits before chosen (now sums) × Products (h .n) (now g) (now table) × (h .p ≡ 1) ⌝ }
+    ensures { λ v. ⌜ Stepped (state-of true h scale k (now (g .entry)) (now (z .entry)) (now (digits .entry))) before (now (z .exit)) (now (digits .exit)) (v .before) (v .chosen) (now (sums .exit)) ⌝ }
 {
     let n = h.n;
-    choice::choose(sums, z, &mut chosen, n, r, bits, h.p);
+    choice::choose(sums, z, &mut chosen, n, r, c, bits, h.p);
     *sums = sums::column_sums(table, &chosen, n);
     store_digits(digits, k, n, &chosen);
     Vectors {
@@ -168,19 +176,21 @@ fn step_by_columns<'a>(
 // Makes the steps with the products looked up in a table.
 fn run_by_columns(
     h: Header,
+    scale: usize,
     k: usize,
     made: usize,
     g: &[i64; ENTRIES],
     z: &mut [i64; ROWS],
     digits: &mut [i8; DIGITS],
 )
-    requires { ⌜ MayStep (state-of true h k (now g) (now z) (now digits)) made × (h .p ≡ 1) ⌝ }
-    ensures residuals { λ _. ⌜ now (z .exit) ≡ steps (state-of true h k (now (g .entry)) (now (z .entry)) (now (digits .entry))) made .z ⌝ }
-    ensures digits { λ _. ⌜ now (digits .exit) ≡ steps (state-of true h k (now (g .entry)) (now (z .entry)) (now (digits .entry))) made .digits ⌝ }
+    requires { ⌜ MayStep (state-of true h scale k (now g) (now z) (now digits)) made × (h .p ≡ 1) ⌝ }
+    ensures residuals { λ _. ⌜ now (z .exit) ≡ steps (state-of true h scale k (now (g .entry)) (now (z .entry)) (now (digits .entry))) made .z ⌝ }
+    ensures digits { λ _. ⌜ now (digits .exit) ≡ steps (state-of true h scale k (now (g .entry)) (now (z .entry)) (now (digits .entry))) made .digits ⌝ }
 {
     let n = h.n;
     let r = job::radix(h.code);
-    let bits = job::inner_bits(h);
+    let c = job::scale_factor(h, scale);
+    let bits = job::inner_bits(h, scale);
     let table = sums::products(g, n);
     let mut v = Vectors {
         before: last_digits(digits, k, n),
@@ -193,7 +203,9 @@ fn run_by_columns(
         let chosen = v.chosen;
         v = step_by_columns(
             h,
+            scale,
             r,
+            c,
             bits,
             k + j,
             g,
@@ -233,19 +245,20 @@ fn table_pays(g: &[i64; ENTRIES], n: usize, p: usize, made: usize) -> bool
 // Makes the steps, in the way that is likely to be faster. For callers that know their state to pass 24.
 pub fn make_steps(
     h: Header,
+    scale: usize,
     k: usize,
     made: usize,
     g: &[i64; ENTRIES],
     z: &mut [i64; ROWS],
     digits: &mut [i8; DIGITS],
 )
-    requires { ⌜ MayStep (state-of true h k (now g) (now z) (now digits)) made ⌝ }
-    ensures residuals { λ _. ⌜ now (z .exit) ≡ steps (state-of true h k (now (g .entry)) (now (z .entry)) (now (digits .entry))) made .z ⌝ }
-    ensures digits { λ _. ⌜ now (digits .exit) ≡ steps (state-of true h k (now (g .entry)) (now (z .entry)) (now (digits .entry))) made .digits ⌝ }
+    requires { ⌜ MayStep (state-of true h scale k (now g) (now z) (now digits)) made ⌝ }
+    ensures residuals { λ _. ⌜ now (z .exit) ≡ steps (state-of true h scale k (now (g .entry)) (now (z .entry)) (now (digits .entry))) made .z ⌝ }
+    ensures digits { λ _. ⌜ now (digits .exit) ≡ steps (state-of true h scale k (now (g .entry)) (now (z .entry)) (now (digits .entry))) made .digits ⌝ }
 {
     if table_pays(g, h.n, h.p, made) {
-        run_by_columns(h, k, made, g, z, digits);
+        run_by_columns(h, scale, k, made, g, z, digits);
     } else {
-        run_by_rows(h, k, made, g, z, digits);
+        run_by_rows(h, scale, k, made, g, z, digits);
     }
 }

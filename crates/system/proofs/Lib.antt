@@ -1,7 +1,7 @@
 pub mod Light
 pub mod FirstRow
 pub mod Weighing
-pub mod Verdicts
+pub mod Searches
 pub mod Numbers
 pub mod Arrays
 pub mod Setup

@@ -1,6 +1,6 @@
--- Light enough, small enough (document 01, "The system") and a residual within its bound as one comparison
--- each: with the largest weight, half a unit, and the largest residual. Cited by the proofs of
--- `largest_light` and `residual_most`, by `Verdict`, and by callers that need a bound.
+-- Light enough (document 01, "The system") and a residual within its bound as one comparison each: with the
+-- largest weight, and with the largest residual. Cited by the proofs of `largest_light` and `residual_most`,
+-- by `Searches`, and by callers that need a bound.
 use mathlib.Core.Path.{_≡_, sym, ap, _∙_}
 use mathlib.Core.Bool.{not, Bool·not-not}
 use mathlib.Core.Logic.{_⊎_, inl, inr}
@@ -13,7 +13,7 @@ use lib.IntN.{ℤ, natAbs}
 use Rattle.integers.proofs.Maximum.{le-or-lt}
 use Rattle.job.specs.Header.{radix, unit, Limits}
 use Rattle.job.proofs.Limits.{radix-least, radix-most, digit-positive, digit-small, unit-most, ltb-quotient}
-use Rattle.system.specs.Rows.{weight-factor, weight-room, light-enough, small-enough, residual-kept}
+use Rattle.system.specs.Rows.{weight-factor, weight-room, light-enough, residual-kept}
 use Rattle.system.specs.Inner.{largest-light, residual-most}
 use Rattle.job.specs.Rules.{inner-unit, bound-over, bound-under}
 use Rattle.job.specs.declared.Header.{Header}
@@ -56,7 +56,7 @@ module _ (r p u : ℕ) (s : Sizes r p u) where
       let l : bound-under * p - bound-over * (r - 1) ≤ bound-under * r * p = omega (arith, mul-le-mul-right p (s .r-least)) in
       div-le-of-le-mul (bound-under * r * p) {m = u * (bound-under * p - bound-over * (r - 1))} {n = 2 ^ 40} (omega (arith, mul-le-mul (s .u-most) l))
 
--- ---- the three tests
+-- ---- the two tests
 
 leb-is : (a b : ℕ) → leb a b ≡ not (ltb b a)
 leb-is a b = by-order (le-or-lt a b)
@@ -75,10 +75,6 @@ not-leb a b = ap not (leb-is a b) ∙ Bool·not-not (ltb b a)
 pub light-is : {h : Header} → Limits h → (S : ℕ) → light-enough h S ≡ leb S (largest-light h)
 light-is {h} l S = leb-quotient (weight-factor h) S (weight-room h) (divisor-least (radix (h .code)) (h .p) (unit h) (sizes l))
 
--- small enough is at most half a unit
-pub small-is : (h : Header) (B : ℤ) → small-enough h B ≡ leb (natAbs B) (unit h / 2)
-small-is h B = leb-quotient 2 (natAbs B) (unit h) (omega arith)
-
 -- within the bound is at most the largest residual that is
-pub residual-is : (h : Header) (z : ℤ) → residual-kept h z ≡ leb (natAbs z) (residual-most h)
-residual-is h z = leb-quotient bound-under (natAbs z) (bound-over * inner-unit h) (omega arith)
+pub residual-is : (h : Header) (s : ℕ) (z : ℤ) → residual-kept h s z ≡ leb (natAbs z) (residual-most h s)
+residual-is h s z = leb-quotient bound-under (natAbs z) (bound-over * inner-unit h s) (omega arith)

@@ -1,9 +1,9 @@
 -- What the contracts of inner functions cite; a reader of the promises can skip it.
-use mathlib.Core.{Bool.Bool, Bool.cond, List.List, List.[], List._∷_}
+use mathlib.Core.{Bool.Bool, List.List}
 use Prim.Native.Nat.{ℕ, _*_, _/_, _^_, _<_, _≤_}
-use lib.{Dec.ltb, Dec.eqb, IntN.ℤ, IntN.natAbs, ListN.length}
+use lib.{Dec.ltb, IntN.ℤ, IntN.natAbs, ListN.length}
 use Rattle.integers.specs.{Sum.Within, Sum.weight, Flat.at, Flat.entry}
-use Rattle.job.specs.{Refusal.first-refusal, Rules.inner-unit, Rules.bound-over, Rules.bound-under, declared.Header.Header, declared.Verdict.Verdict}
+use Rattle.job.specs.{Rules.inner-unit, Rules.bound-over, Rules.bound-under, declared.Header.Header}
 use Rattle.system.specs.{Rows.weight-factor, Rows.weight-room, System.sent}
 
 -- v has c numbers, none of a magnitude above 2^41, which the f + 2 bits of a number sent keep
@@ -15,8 +15,8 @@ pub record Numbers (c : ℕ) (v : List ℤ) : Type 0 where
 abbrev pub largest-light : Header → ℕ
 largest-light h = weight-room h / weight-factor h
 
-abbrev pub residual-most : Header → ℕ
-residual-most h = bound-over * inner-unit h / bound-under
+abbrev pub residual-most : Header → ℕ → ℕ
+residual-most h s = bound-over * inner-unit h s / bound-under
 
 -- row i of the array g weighs more than the limit; number i of the array z is of a magnitude above the bound
 abbrev pub too-heavy : (limit : ℤ) (n : ℕ) (g : List ℤ) (i : ℕ) → Bool
@@ -24,9 +24,3 @@ too-heavy limit n g i = ltb (natAbs limit) (weight n (entry g i))
 
 abbrev pub too-large : ℤ → List ℤ → ℕ → Bool
 too-large bound z i = ltb (natAbs bound) (natAbs (at z i))
-
--- the verdict, where the searches for a heavy row and for a large right-hand side give a and b
-abbrev pub verdict-from : ℕ → ℕ → Verdict
-verdict-from a b =
-    let c = first-refusal ((8, ltb 0 a) ∷ (9, ltb 0 b) ∷ []) in
-    record { refusal = c; row = cond (eqb c 8) a (cond (eqb c 9) b 0) }

@@ -1,10 +1,10 @@
--- Rows that are too heavy and right-hand sides that are too large (document 01, "The system"; refusals 8 and
--- 9), and the first row that is.
-use mathlib.Core.{Path._≡_, Bool.Bool, Bool.true, Bool.false, Bool.not, Bool.cond, List.List, List.[], List._∷_, Logic._↔_}
+-- Rows that are too heavy (document 01, "The system"; refusal 8) and residuals that are too large, and the
+-- first row that is.
+use mathlib.Core.{Path._≡_, Bool.Bool, Bool.true, Bool.false, Bool.not, Bool.cond, Logic._↔_}
 use Prim.Native.Nat.{ℕ, zero, suc, _*_, _-_, _<_}
-use lib.{Dec.ltb, Dec.leb, Dec.eqb, IntN.ℤ, IntN.natAbs}
+use lib.{Dec.leb, IntN.ℤ, IntN.natAbs}
 use Rattle.integers.specs.Sum.{weight}
-use Rattle.job.specs.{Header.radix, Header.unit, Refusal.Check, Refusal.first-refusal, Rules.inner-unit, Rules.bound-over, Rules.bound-under, declared.Header.Header, declared.Verdict.Verdict}
+use Rattle.job.specs.{Header.radix, Header.unit, Rules.inner-unit, Rules.bound-over, Rules.bound-under, declared.Header.Header}
 
 -- Document 01's rule of light rows, 2 × r × p × S at most 2^f × (2p - (r - 1)), where 2 and 1 are the
 -- residual bound's: what a weight S is multiplied by, and what that may come to
@@ -18,13 +18,9 @@ weight-room h = unit h * (bound-under * h .p - bound-over * (radix (h .code) - 1
 abbrev pub light-enough : Header → ℕ → Bool
 light-enough h S = leb (weight-factor h * S) (weight-room h)
 
--- document 01's "small enough", of a right-hand side B
-abbrev pub small-enough : Header → ℤ → Bool
-small-enough h B = leb (2 * natAbs B) (unit h)
-
--- a residual z inside a state is within its bound
-abbrev pub residual-kept : Header → ℤ → Bool
-residual-kept h z = leb (bound-under * natAbs z) (bound-over * inner-unit h)
+-- a residual z inside a state of scale s is within its bound
+abbrev pub residual-kept : Header → ℕ → ℤ → Bool
+residual-kept h s z = leb (bound-under * natAbs z) (bound-over * inner-unit h s)
 
 -- ---- the first row
 
@@ -54,30 +50,9 @@ FirstRowFound = (t : ℕ → Bool) (n i : ℕ) → (first-row n t ≡ suc i) ↔
 abbrev pub FirstRowNone : Type 0
 FirstRowNone = (t : ℕ → Bool) (n : ℕ) → (first-row n t ≡ 0) ↔ Never n t
 
--- the first row that is too heavy, the first whose right-hand side is too large, and the first whose residual
--- is; 0 where none is
+-- the first row that is too heavy, and the first whose residual is too large; 0 where none is
 abbrev pub heavy-row : Header → (ℕ → ℕ → ℤ) → ℕ
 heavy-row h G = first-row (h .n) (λ i. not (light-enough h (weight (h .n) (G i))))
 
-abbrev pub large-row : Header → (ℕ → ℤ) → ℕ
-large-row h B = first-row (h .n) (λ i. not (small-enough h (B i)))
-
-abbrev pub large-residual : Header → (ℕ → ℤ) → ℕ
-large-residual h Z = first-row (h .n) (λ i. not (residual-kept h (Z i)))
-
--- ---- 8, 9: all weights are looked at before any right-hand side
-
-abbrev pub system-checks : Header → (ℕ → ℕ → ℤ) → (ℕ → ℤ) → List Check
-system-checks h G B = (8, ltb 0 (heavy-row h G)) ∷ (9, ltb 0 (large-row h B)) ∷ []
-
--- the row given with a refusal c: that of 8 or of 9, and 0 with every other number
-abbrev pub row-given : (c : ℕ) (h : Header) (G : ℕ → ℕ → ℤ) (B : ℕ → ℤ) → ℕ
-row-given c h G B = cond (eqb c 8) (heavy-row h G) (cond (eqb c 9) (large-row h B) 0)
-
--- the refusal, and the row given with it
-abbrev pub system-verdict : Header → (ℕ → ℕ → ℤ) → (ℕ → ℤ) → Verdict
-system-verdict h G B =
-    record {
-      refusal = first-refusal (system-checks h G B);
-      row = row-given (first-refusal (system-checks h G B)) h G B;
-    }
+abbrev pub large-residual : Header → ℕ → (ℕ → ℤ) → ℕ
+large-residual h s Z = first-row (h .n) (λ i. not (residual-kept h s (Z i)))

@@ -1,6 +1,6 @@
-// Setting up the system of a job from its numbers, and weighing it (document 01, "The system"; refusals 8 and
-// 9). A matrix is an array with row i, column j at 16 * i + j, a vector an array with a number a row. Rows
-// and columns count from 0 here, and only row numbers that are given count from 1. Past the order n an array
+// Setting up the system of a job from its numbers, and weighing it (document 01, "The system"; refusal 8). A
+// matrix is an array with row i, column j at 16 * i + j, a vector an array with a number a row. Rows and
+// columns count from 0 here, and only row numbers that are given count from 1. Past the order n an array
 // holds zeros.
 ghost use mathlib.Core.Path.{_≡_};
 ghost use mathlib.Core.Bool.{cond};
@@ -13,12 +13,12 @@ ghost use Rattle.integers.specs.Sum.{Within};
 ghost use Rattle.integers.specs.Flat.{at, entry, flat-vector, flat-matrix, stores};
 ghost use Rattle.job.specs.Header.{count, Limits};
 ghost use Rattle.job.specs.Kind.{kind-of};
-ghost use Rattle.system.specs.Rows.{first-row, heavy-row, large-row, large-residual, system-verdict};
-ghost use Rattle.system.specs.Inner.{largest-light, residual-most, Numbers, verdict-from, too-heavy, too-large};
+ghost use Rattle.job.specs.Rules.{ScaleLimits};
+ghost use Rattle.system.specs.Rows.{first-row, heavy-row, large-residual};
+ghost use Rattle.system.specs.Inner.{largest-light, residual-most, Numbers, too-heavy, too-large};
 ghost use Rattle.system.specs.System.{argument, denominator, no-denominator, curve-entry, system-entry, matrix-of, right-place, right-side-of};
 use job::Header;
 use job::ROWS;
-use job::Verdict;
 
 // The entries of a matrix: as many columns as rows.
 pub const ENTRIES: usize = ROWS * ROWS;
@@ -133,12 +133,12 @@ const OVER: u64 = 1;
 
 const UNDER: u64 = 2;
 
-// The largest residual that is within its bound.
-fn residual_most(h: Header) -> i64
-    requires { ⌜ Limits h ⌝ }
-    ensures { λ r. ⌜ r ≡ pos (residual-most h) ⌝ }
+// The largest residual that is within its bound, at the scale s.
+fn residual_most(h: Header, s: usize) -> i64
+    requires { ⌜ Limits h × ScaleLimits h s ⌝ }
+    ensures { λ r. ⌜ r ≡ pos (residual-most h s) ⌝ }
 {
-    integers::to_signed(OVER * integers::pow2(job::inner_bits(h)) / UNDER)
+    integers::to_signed(OVER * integers::pow2(job::inner_bits(h, s)) / UNDER)
 }
 
 // The largest weight that is light enough.
@@ -217,46 +217,10 @@ pub fn heavy_row(g: &[i64; ENTRIES], h: Header) -> usize
     first_heavy(g, h.n, largest_light(h))
 }
 
-// The number of the first row whose right-hand side is too large; 0 where none is.
-fn large_row(z: &[i64; ROWS], h: Header) -> usize
-    requires { ⌜ Limits h ⌝ }
-    ensures { λ r. ⌜ r ≡ large-row h (at (now (z .entry))) ⌝ }
+// The number of the first row whose residual is above its bound at the scale s; 0 where none is.
+pub fn large_residual(z: &[i64; ROWS], h: Header, s: usize) -> usize
+    requires { ⌜ Limits h × ScaleLimits h s ⌝ }
+    ensures { λ r. ⌜ r ≡ large-residual h s (at (now (z .entry))) ⌝ }
 {
-    first_large(z, h.n, integers::half_pow2(h.f))
-}
-
-// The number of the first row whose residual is above its bound; 0 where none is.
-pub fn large_residual(z: &[i64; ROWS], h: Header) -> usize
-    requires { ⌜ Limits h ⌝ }
-    ensures { λ r. ⌜ r ≡ large-residual h (at (now (z .entry))) ⌝ }
-{
-    first_large(z, h.n, residual_most(h))
-}
-
-// Refusals 8 and 9, with the row that is given, from the first heavy row and the first large right-hand side:
-// all weights come before any right-hand side.
-fn verdict_from(heavy: usize, large: usize) -> Verdict
-    ensures { λ r. ⌜ r ≡ verdict-from heavy large ⌝ }
-{
-    if 0 < heavy {
-        return Verdict {
-            refusal: 8,
-            row: heavy,
-        };
-    }
-    if 0 < large {
-        return Verdict {
-            refusal: 9,
-            row: large,
-        };
-    }
-    Verdict { refusal: 0, row: 0 }
-}
-
-// Refusals 8 and 9 of a matrix and right-hand sides.
-pub fn verdict<'a>(g: &'a [i64; ENTRIES], z: &'a [i64; ROWS], h: Header) -> Verdict
-    requires { ⌜ Limits h ⌝ }
-    ensures { λ r. ⌜ r ≡ system-verdict h (entry (now (g .entry))) (at (now (z .entry))) ⌝ }
-{
-    verdict_from(heavy_row(g, h), large_row(z, h))
+    first_large(z, h.n, residual_most(h, s))
 }

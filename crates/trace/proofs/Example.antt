@@ -2,10 +2,10 @@
 -- a number, a digit or the nine bytes of A's trace. The record that is written has 9 past its rows and steps,
 -- which the trace does not hold.
 use mathlib.Core.Path.{_≡_, refl, sym, ap, _∙_}
-use mathlib.Core.Bool.{true}
+use mathlib.Core.Bool.{true, false}
 use mathlib.Core.List.{[], _∷_}
 use mathlib.Core.Logic.{inl}
-use Prim.Native.Nat.{_≤_}
+use Prim.Native.Nat.{ℕ, _≤_}
 use native.Mathlib.Omega.{arith}
 use lib.IntN.{pos, negsuc}
 use lib.ListN.{length}
@@ -14,13 +14,14 @@ use Rattle.integers.specs.Sum.{weight, total}
 use Rattle.bitfields.specs.Layout.{Bytes, bits, number, octets, pack, field, values-from, write}
 use Rattle.bitfields.specs.Twos.{encode, decode}
 use Rattle.bitfields.proofs.Writing.{bytes-write}
+use Rattle.scale.specs.Scale.{every}
 use Rattle.system.specs.Rows.{first-row-from}
 use Rattle.system.specs.System.{matrix, curve-entry, right-side}
 use Rattle.job.specs.declared.Header.{Header}
 use Rattle.state.specs.State.{beyond, fresh, breaks-limit, all-steps}
 use Rattle.state.specs.Inner.{state-of}
 use Rattle.state.specs.declared.State.{State}
-use Rattle.trace.specs.Trace.{digit-list, digit-array, trace-length, trimmed, record-fields, trace-checks, trace-refusal, trace-record, record-refusal, state-record, trace-writer-checks, trace-writer-refusal}
+use Rattle.trace.specs.Trace.{digit-list, digit-array, trace-length, trimmed, record-fields, too-many-steps, trace-checks, trace-refusal, trace-record, record-refusal, state-record, trace-writer-checks, trace-writer-refusal}
 use Rattle.trace.specs.Theorems.{TraceReadWrite, TraceReadTaken, TraceWriteRead, TrimmedMade, StateTrace, TraceSizes}
 use Rattle.trace.proofs.Valid.{record-taken}
 use Rattle.trace.proofs.Theorems.{trace-read-write, trace-read-taken, trace-write-read, trimmed-made, state-trace, trace-sizes}
@@ -30,7 +31,7 @@ use Rattle.trace.proofs.ExamplePastOrder.{record-A, trace-A, spoilt-rec
 unfoldable pub state-A : State
 state-A =
     let s = fresh (record-A .header) (pos 4 ∷ pos 3 ∷ pos 8 ∷ []) in
-    state-of true (record-A .header) 4 (s .g) (s .z) (record-A .digits)
+    state-of true (record-A .header) (s .scale) 4 (s .g) (s .z) (record-A .digits)
 
 -- ---- what the definitions give
 
@@ -54,8 +55,21 @@ unfolding record-A digit-array list-from
 last-A = refl
 
 recorded-A : (record-refusal state-A ≡ 0) × (trace-A ≡ write (record-fields (state-record state-A)))
-unfolding record-A trace-A state-A fresh state-record bits number octets pack encode digit-list digit-array breaks-limit beyond first-row-from weight total list-from matrix curve-entry right-side
+unfolding record-A trace-A state-A fresh state-record bits number octets pack encode digit-list digit-array breaks-limit beyond every first-row-from weight total list-from matrix curve-entry right-side
 recorded-A = (refl, refl)
+
+-- the two sides of 10: A, whose m is 4, may have 6 steps; with m 59 in radix 2 there may be 60, and with m 14
+-- in radix 16 there may be 15, as 60 bits hold no more
+abbrev header-with : (code p m : ℕ) → Header
+header-with code p m = record { kind = 0; code = code; p = p; f = 4; n = 2; m = m }
+
+most-steps-A : (too-many-steps (record-A .header) 6 ≡ false) × (too-many-steps (record-A .header) 7 ≡ true)
+unfolding record-A
+most-steps-A = (refl, refl)
+
+steps-60-bits : (too-many-steps (header-with 0 1 59) 60 ≡ false) × (too-many-steps (header-with 0 1 59) 61 ≡ true)
+    × (too-many-steps (header-with 3 8 14) 15 ≡ false) × (too-many-steps (header-with 3 8 14) 16 ≡ true)
+steps-60-bits = (refl, refl, refl, refl)
 
 -- ---- what the statements give
 

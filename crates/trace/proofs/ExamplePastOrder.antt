@@ -13,6 +13,7 @@ use Rattle.integers.specs.Flat.{entry, list-from}
 use Rattle.integers.specs.Sum.{weight, total}
 use Rattle.bitfields.specs.Layout.{bits, number, octets, pack, written, field, values-from}
 use Rattle.bitfields.specs.Twos.{encode, decode}
+use Rattle.scale.specs.Scale.{every}
 use Rattle.system.specs.Rows.{first-row-from}
 use Rattle.system.specs.System.{matrix, curve-entry, right-side}
 use Rattle.job.specs.declared.Header.{Header}
@@ -75,14 +76,14 @@ unfoldable pub recorded-job-A : State
 recorded-job-A =
     let h : Header = record { kind = 0; code = 0; p = 1; f = 4; n = 2; m = 4 } in
     let s = fresh h (pos 4 ∷ pos 3 ∷ pos 8 ∷ []) in
-    state-of true h 1 (s .g) (s .z) (set (replicate 960 (pos 0)) 1 (pos 1))
+    state-of true h (s .scale) 1 (s .g) (s .z) (set (replicate 960 (pos 0)) 1 (pos 1))
 
 abbrev pub other-A : State
 other-A = overwritten recorded-job-A 2 0 0 (pos 9)
 
 recorded-A : (record-answer recorded-job-A .refusal ≡ 0) × (entry (record-answer recorded-job-A .trace .digits) 0 1 ≡ pos 1)
     × (record-answer recorded-job-A .trace .header .n ≡ 2)
-unfolding recorded-job-A fresh record-answer state-record digit-list digit-array breaks-limit beyond first-row-from weight total list-from matrix curve-entry right-side
+unfolding recorded-job-A fresh record-answer state-record digit-list digit-array breaks-limit beyond every first-row-from weight total list-from matrix curve-entry right-side
 recorded-A = (refl, refl, refl)
 
 module _ (below : RecordBelow) where

@@ -6,57 +6,51 @@ use Prim.Native.Nat.{ℕ, _*_, _-_, _<_, _≤_}
 use native.Mathlib.Nat.{mul-le-mul}
 use native.Mathlib.Omega.{arith}
 use borrow.Author.Tests.{eq-eqb, le-ltb, lt-ltb, ne-eqb}
-use lib.Dec.{eqb, nltb→le}
+use lib.Dec.{eqb}
 use lib.IntN.{ℤ}
 use lib.ListN.{length, take, drop, length-drop}
 use lib.Seq.{take-all}
 use Rattle.bitfields.specs.Layout.{bytes-for, field, fill}
 use Rattle.job.specs.Header.{trace-read-checks, Limits}
-use Rattle.job.proofs.Limits.{trace-small}
 use Rattle.job.specs.Refusal.{first-refusal, None, none, also}
-use Rattle.job.proofs.Refusal.{accepted-before, accepted-exactly, refused-before, equal}
+use Rattle.job.proofs.Refusal.{accepted-before, accepted-exactly, refused-before, equal, fails}
 use Rattle.job.specs.declared.Header.{Header}
-use Rattle.job.specs.Rules.{trace-steps}
 use Rattle.header.specs.Header.{header-of}
 use Rattle.state.specs.State.{digit-beyond}
-use Rattle.trace.specs.Trace.{trace-wrong-length, trace-fill-bit-set, trace-digits, steps-of, trace-checks, trace-reader-answer, record-of}
+use Rattle.trace.specs.Trace.{too-many-steps, trace-wrong-length, trace-fill-bit-set, trace-digits, steps-of, trace-checks, trace-reader-answer, record-of}
 use Rattle.trace.specs.Inner.{part-bits, part-steps, part-digits, part-wrong-length, part-fill-bit-set, size-checks, rest-checks, rest-answer, no-record, part-answer}
 use Rattle.trace.proofs.Part.{part-whole}
 use Rattle.trace.specs.declared.Recorded.{Recorded}
-use Rattle.trace.proofs.Steps.{digit-count}
-use Rattle.trace.proofs.Valid.{trace-header-is}
+use Rattle.trace.proofs.Valid.{few-steps, trace-header-is}
 
 -- ---- sizes
 
-pub digits-most : {h : Header} {k : ℕ} → Limits h → k ≤ trace-steps h → h .n * k ≤ 960
-digits-most {h} {k} l g = digit-count (h .n) k (l .order-most) (omega (arith, trace-small h l))
-
--- of any number of 6 bits
+-- the digits of any number of steps of 6 bits
 pub digits-few : {h : Header} {k : ℕ} → Limits h → k < 64 → h .n * k ≤ 1008
 digits-few {h} {k} l g = mul-le-mul {n₁ = h .n} {m₁ = k} {n₂ = 16} {m₂ = 63} (l .order-most) (omega arith)
 
 -- ---- 10, 6, 7
 
 module _ (h : Header) (k : ℕ) (b : List ℕ) where
-  pub size-steps : trace-steps h < k → 10 ≡ first-refusal (size-checks h k (part-wrong-length h k b) (part-fill-bit-set h k b))
-  size-steps l = rw (lt-ltb (trace-steps h) k l)
+  pub size-steps : too-many-steps h k ≡ true → 10 ≡ first-refusal (size-checks h k (part-wrong-length h k b) (part-fill-bit-set h k b))
+  size-steps l = rw l
 
-  pub size-length : k ≤ trace-steps h → (length b ≡ bytes-for (part-bits h k) → ⊥) → 6 ≡ first-refusal (size-checks h k (part-wrong-length h k b) (part-fill-bit-set h k b))
-  size-length l g = rw (le-ltb (trace-steps h) k l, ne-eqb (length b) (bytes-for (part-bits h k)) g)
+  pub size-length : too-many-steps h k ≡ false → (length b ≡ bytes-for (part-bits h k) → ⊥) → 6 ≡ first-refusal (size-checks h k (part-wrong-length h k b) (part-fill-bit-set h k b))
+  size-length l g = rw (l, ne-eqb (length b) (bytes-for (part-bits h k)) g)
 
-  module _ (t : Bool) (l : k ≤ trace-steps h) (g : length b ≡ bytes-for (part-bits h k)) (e : t ≡ eqb (field b (part-bits h k) (fill (part-bits h k))) 0) where
+  module _ (t : Bool) (l : too-many-steps h k ≡ false) (g : length b ≡ bytes-for (part-bits h k)) (e : t ≡ eqb (field b (part-bits h k) (fill (part-bits h k))) 0) where
     pub size-fill : not t ≡ true → 7 ≡ first-refusal (size-checks h k (part-wrong-length h k b) (part-fill-bit-set h k b))
-    size-fill n = rw (le-ltb (trace-steps h) k l, eq-eqb (length b) (bytes-for (part-bits h k)) g, ← e, n)
+    size-fill n = rw (l, eq-eqb (length b) (bytes-for (part-bits h k)) g, ← e, n)
 
     pub size-right : not t ≡ false → 0 ≡ first-refusal (size-checks h k (part-wrong-length h k b) (part-fill-bit-set h k b))
-    size-right n = rw (le-ltb (trace-steps h) k l, eq-eqb (length b) (bytes-for (part-bits h k)) g, ← e, n)
+    size-right n = rw (l, eq-eqb (length b) (bytes-for (part-bits h k)) g, ← e, n)
 
   -- a part that they let through
-  size-none : None (size-checks h k (part-wrong-length h k b) (part-fill-bit-set h k b)) → (k ≤ trace-steps h) × (length b ≡ bytes-for (part-bits h k))
-  size-none (also t₁₀ (also t₆ (also t₇ none))) = (nltb→le (trace-steps h) k t₁₀, equal (length b) (bytes-for (part-bits h k)) t₆)
+  size-none : None (size-checks h k (part-wrong-length h k b) (part-fill-bit-set h k b)) → (k ≤ 60) × (length b ≡ bytes-for (part-bits h k))
+  size-none (also t₁₀ (also t₆ (also t₇ none))) = (few-steps h k (fails (too-many-steps h k) t₁₀), equal (length b) (bytes-for (part-bits h k)) t₆)
 
   pub size-facts : (c : ℕ) → c ≡ first-refusal (size-checks h k (part-wrong-length h k b) (part-fill-bit-set h k b)) → c ≤ 0
-      → (k ≤ trace-steps h) × (length b ≡ bytes-for (part-bits h k))
+      → (k ≤ 60) × (length b ≡ bytes-for (part-bits h k))
   size-facts c r z =
       let y : first-refusal (size-checks h k (part-wrong-length h k b) (part-fill-bit-set h k b)) ≡ 0 = omega arith in
       size-none (accepted-exactly (size-checks h k (part-wrong-length h k b) (part-fill-bit-set h k b)) tt .0 y)

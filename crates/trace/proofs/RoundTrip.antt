@@ -13,11 +13,9 @@ use Rattle.bitfields.proofs.Writing.{write-framed}
 use Rattle.bitfields.proofs.RoundTrip.{fields-write, write-fields}
 use Rattle.bitfields.proofs.Twos.{fit-encodes, fields-numbers, length-numbers, numbers-after}
 use Rattle.job.specs.Header.{Limits}
-use Rattle.job.proofs.Limits.{trace-small}
 use Rattle.job.specs.declared.Header.{Header}
 use Rattle.header.specs.Header.{header-fields, header-of}
 use Rattle.header.proofs.Header.{fit-header, header-spelled}
-use Rattle.job.specs.Rules.{trace-steps}
 use Rattle.trace.specs.Trace.{ValidRecord, AcceptedTrace, trimmed, digit-list, digit-array, trace-fields, trace-bits, trace-length, steps-of, trace-digits, trace-record, record-fields, record-of}
 use Rattle.trace.proofs.Digits.{entry-kept, length-digit-list, list-array}
 use Rattle.trace.proofs.Valid.{order-some, record-steps-most, fit-digits}
@@ -42,11 +40,11 @@ widths-trace h k ds =
     rw (widths-each 5 (map (encode 5) (digit-list (h .n) k ds)), length-map (digit-list (h .n) k ds) (encode 5), length-digit-list (h .n) k ds)
 
 -- the header and the steps, and the whole
-pub fit-head : {h : Header} {k : ℕ} → Limits h → k ≤ trace-steps h → Fit (header-fields h ++ ((6, k) ∷ []))
-fit-head {h} {k} l g = fit-append (fit-header l) (more {w = 6} {v = k} (omega (arith, trace-small h l)) none)
+pub fit-head : {h : Header} {k : ℕ} → Limits h → k ≤ 60 → Fit (header-fields h ++ ((6, k) ∷ []))
+fit-head {h} {k} l g = fit-append (fit-header l) (more {w = 6} {v = k} (omega arith) none)
 
 fit-trace : {t : Record} → ValidRecord t → Fit (record-fields t)
-fit-trace a = fit-append (fit-head (a .limits) (a .steps)) (fit-encodes (omega arith) (fit-digits a))
+fit-trace a = fit-append (fit-head (a .limits) (record-steps-most a)) (fit-encodes (omega arith) (fit-digits a))
 
 -- ---- what was read is written
 
@@ -79,6 +77,7 @@ trimmed-valid {t} a =
     record {
       limits = a .limits;
       steps = a .steps;
+      bits = a .bits;
       within = λ j i l m. rw (entry-kept (t .header .n) (t .k) (t .digits) j i (a .limits .order-most) (record-steps-most a) l m) (a .within j i l m);
     }
 
@@ -132,7 +131,7 @@ module _ {t : Record} (a : ValidRecord t) where
   unfolding bits
   numbers-written =
       rw (append-nil, length-digit-list (t .header .n) (t .k) (t .digits)) at
-      (numbers-after {fs = header-fields (t .header) ++ ((6, t .k) ∷ [])} {t = []} (omega arith) (fit-head (a .limits) (a .steps)) (fit-digits a) (bytes-fit none))
+      (numbers-after {fs = header-fields (t .header) ++ ((6, t .k) ∷ [])} {t = []} (omega arith) (fit-head (a .limits) (record-steps-most a)) (fit-digits a) (bytes-fit none))
 
   pub written-record : trace-record s ≡ trimmed t
   written-record = spelled-record s t header-written steps-written numbers-written

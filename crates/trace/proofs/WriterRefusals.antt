@@ -14,7 +14,6 @@ use Rattle.job.proofs.Limits.{trace-limits}
 use Rattle.job.specs.Refusal.{Check, first-refusal}
 use Rattle.job.proofs.Refusal.{accepted-before, refused-before}
 use Rattle.job.specs.declared.Header.{Header}
-use Rattle.job.specs.Rules.{trace-steps}
 use Rattle.trace.specs.Trace.{trace-fields, trace-length, too-many-steps, trace-buffer-too-short, trace-writer-checks, trace-writer-refusal, trace-writer-answer, trace-writer-buffer, record-of, ValidRecord}
 use Rattle.state.specs.State.{digit-beyond}
 use Rattle.trace.proofs.Valid.{record-taken}
@@ -39,18 +38,18 @@ module _ (h : Header) (k : ℕ) (ds : List ℤ) (room c : ℕ) (r : c ≡ first-
     unfolding trace-writer-checks
     rest-decides = accepted-before (trace-header-checks h) rest tt (omega arith)
 
-    pub refused-steps : trace-steps h < k → 10 ≡ first-refusal (trace-writer-checks (record-of h k ds) room)
-    refused-steps l = rw (rest-decides, lt-ltb (trace-steps h) k l)
+    pub refused-steps : too-many-steps h k ≡ true → 10 ≡ first-refusal (trace-writer-checks (record-of h k ds) room)
+    refused-steps l = rw (rest-decides, l)
 
-    module _ (t : Bool) (l : k ≤ trace-steps h) (e : t ≡ digit-beyond h k ds) where
+    module _ (t : Bool) (l : too-many-steps h k ≡ false) (e : t ≡ digit-beyond h k ds) where
       pub refused-digit : t ≡ true → 11 ≡ first-refusal (trace-writer-checks (record-of h k ds) room)
-      refused-digit f = rw (rest-decides, le-ltb (trace-steps h) k l, ← e, f)
+      refused-digit f = rw (rest-decides, l, ← e, f)
 
       pub refused-room : (n : ℕ) → t ≡ false → n ≡ trace-length h k → room < n → 23 ≡ first-refusal (trace-writer-checks (record-of h k ds) room)
-      refused-room n f g q = rw (rest-decides, le-ltb (trace-steps h) k l, ← e, f, lt-ltb room (trace-length h k) (rw g at q))
+      refused-room n f g q = rw (rest-decides, l, ← e, f, lt-ltb room (trace-length h k) (rw g at q))
 
       pub refused-not : (n : ℕ) → t ≡ false → n ≡ trace-length h k → n ≤ room → 0 ≡ first-refusal (trace-writer-checks (record-of h k ds) room)
-      refused-not n f g q = rw (rest-decides, le-ltb (trace-steps h) k l, ← e, f, le-ltb room (trace-length h k) (rw g at q))
+      refused-not n f g q = rw (rest-decides, l, ← e, f, le-ltb room (trace-length h k) (rw g at q))
 
 -- ---- what the writer answers and leaves
 

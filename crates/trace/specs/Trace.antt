@@ -1,12 +1,12 @@
 -- Traces and records (document 01, "Trace" and "Refused because of the input"): the layout, the condition of
 -- each refusal, and what the trace reader, the record of a state and the trace writer answer. The contracts
 -- of these three calls are equalities with the definitions here; `Theorems` says what follows.
-use mathlib.Core.{Path._≡_, Bool.Bool, Bool.not, Bool.cond, Bool._&&_, List.List, List.[], List._∷_, List._++_, List.map}
+use mathlib.Core.{Path._≡_, Bool.Bool, Bool.not, Bool.cond, Bool._&&_, Bool._||_, List.List, List.[], List._∷_, List._++_, List.map}
 use Prim.Native.Nat.{ℕ, _+_, _*_, _/_, _%_, _<_, _≤_}
 use lib.{Dec.ltb, Dec.eqb, IntN.ℤ, IntN.pos, IntN.natAbs, ListN.length, ListN.replicate}
 use Rattle.integers.specs.Flat.{at, entry, list-from}
 use Rattle.bitfields.specs.{Layout.Field, Layout.each, Layout.field, Layout.fill, Layout.bytes-for, Layout.written, Twos.encode, Twos.numbers}
-use Rattle.job.specs.{Header.trace-read-checks, Header.trace-header-checks, Header.zero-header, Header.Limits, Refusal.Check, Refusal.first-refusal, Rules.trace-steps, declared.Header.Header}
+use Rattle.job.specs.{Header.trace-read-checks, Header.trace-header-checks, Header.zero-header, Header.Limits, Header.digit-bits, Header.past-60-bits, Refusal.Check, Refusal.first-refusal, Rules.trace-steps, declared.Header.Header}
 use Rattle.header.specs.Header.{header-fields, header-of}
 use Rattle.state.specs.{State.state-checks, State.digit-places, State.digit-beyond, declared.State.State}
 use Rattle.trace.specs.{declared.Record.Record, declared.Recorded.Recorded, declared.TraceWritten.TraceWritten}
@@ -56,10 +56,12 @@ trimmed t = record-of (t .header) (t .k) (digit-array (t .header .n) (t .k) (dig
 abbrev pub record-fields : Record → List Field
 record-fields t = trace-fields (t .header) (t .k) (t .digits)
 
--- a header within its limits, no more steps than a trace of the job may hold, and no digit beyond p
+-- a header within its limits, no more steps than a trace of the job may hold and than 60 bits hold, and no
+-- digit beyond p
 pub record ValidRecord (t : Record) : Type 0 where
   pub limits : Limits (t .header)
   pub steps : t .k ≤ trace-steps (t .header)
+  pub bits : t .k * digit-bits (t .header .code) ≤ 60
   pub within : (j i : ℕ) → j < t .k → i < t .header .n → natAbs (entry (t .digits) j i) ≤ t .header .p
 
 -- ---- the trace reader: refused by 1 to 5, 10, 6, 7, 11
@@ -68,9 +70,10 @@ pub record ValidRecord (t : Record) : Type 0 where
 abbrev pub trace-too-short : List ℕ → Bool
 trace-too-short s = ltb (length s) 4
 
--- 10
+-- 10: k above m + 2, or k × log2(r) above 60. A trace does not tell its job's scale, so k is held to the last
+-- step of a job of scale 2, and to 60 bits.
 abbrev pub too-many-steps : Header → ℕ → Bool
-too-many-steps h k = ltb (trace-steps h) k
+too-many-steps h k = ltb (trace-steps h) k || past-60-bits (h .code) k
 
 -- 6
 abbrev pub trace-wrong-length : List ℕ → Bool

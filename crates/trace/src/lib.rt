@@ -8,6 +8,9 @@
 // zeros, or writes 0 bytes and leaves every lent byte as it was. Its contract is an equality with a
 // definition of specs/Trace.antt, which also has the refusals of each call in their order;
 // specs/Theorems.antt has what follows.
+ghost use mathlib.Core.Path.{_≡_};
+ghost use Rattle.job.specs.Header.{Limits};
+ghost use Rattle.trace.specs.Trace.{too-many-steps};
 use job::Header;
 use state::DIGITS;
 
@@ -48,4 +51,12 @@ pub struct Recorded {
 pub struct TraceWritten {
     pub refusal: usize,
     pub length: usize,
+}
+
+// 10, of the reader and the writer: more steps than a trace of the job may hold, or than 60 bits hold.
+pub(crate) fn too_many_steps(h: Header, k: usize) -> bool
+    requires { ⌜ Limits h ⌝ }
+    ensures { λ r. ⌜ r ≡ too-many-steps h k ⌝ }
+{
+    job::trace_steps(h) < k || job::past_60_bits(h.code, k)
 }

@@ -17,6 +17,7 @@ use crate::STEPS_BITS;
 use crate::eights::read_eight;
 use crate::eights::store_eight;
 use crate::recorder::no_record;
+use crate::too_many_steps;
 use header::read_header;
 use job::Header;
 use state::DIGITS;
@@ -56,11 +57,11 @@ fn size_refusal(b: &[u8], h: Header, k: usize) -> usize
     requires { ⌜ Limits h × (k < 64) ⌝ }
     ensures { λ r. ⌜ r ≡ first-refusal (size-checks h k (part-wrong-length h k (now (b .entry))) (part-fill-bit-set h k (now (b .entry)))) ⌝ }
 {
-    let most = job::trace_steps(h);
+    let many = too_many_steps(h, k);
     let bits = STEPS_BITS + DIGIT_BITS * (h.n * k);
     let size = (bits + 7) / 8;
-    if most < k {
-        return 10; // more steps than a trace of the job may hold
+    if many {
+        return 10; // more steps than a trace of the job, or 60 bits, may hold
     }
     if b.len() != size {
         return 6; // not as long as the fields demand

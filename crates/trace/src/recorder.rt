@@ -56,7 +56,7 @@ pub fn record_of(s: State) -> Recorded
 {
     let h = s.header;
     let k = s.k;
-    let c = state::check(s.busy, h, k, &s.g, &s.z, &s.digits);
+    let c = state::check(s.busy, h, s.scale, k, &s.g, &s.z, &s.digits);
     if 0 < c {
         return no_record(c);
     }

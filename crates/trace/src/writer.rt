@@ -5,7 +5,6 @@ ghost use lib.ListN.{length};
 ghost use Rattle.bitfields.specs.Layout.{written};
 ghost use Rattle.job.specs.Header.{Limits};
 ghost use Rattle.job.specs.Refusal.{first-refusal};
-ghost use Rattle.job.specs.Rules.{trace-steps};
 ghost use Rattle.state.specs.State.{all-steps, digit-places};
 ghost use Rattle.trace.specs.Inner.{digits-from, digit-fields, DigitsFit, StepsFit, Appended};
 ghost use Rattle.trace.specs.Trace.{record-of, digit-list, trace-fields, trace-length, trace-writer-checks, trace-writer-answer, trace-writer-buffer};
@@ -15,6 +14,7 @@ use crate::Record;
 use crate::TraceWritten;
 use crate::eights::digits_number;
 use crate::recorder::copy_step;
+use crate::too_many_steps;
 use header::header_number;
 use job::Header;
 use state::DIGITS;
@@ -81,7 +81,7 @@ fn write_digits(out: &mut [u8], d: &[i8; DIGITS], n: usize, k: usize)
 
 // How many bytes a trace of k steps has.
 fn trace_length(h: Header, k: usize) -> usize
-    requires { ⌜ Limits h × (k ≤ trace-steps h) ⌝ }
+    requires { ⌜ Limits h × (k ≤ all-steps) ⌝ }
     ensures { λ r. ⌜ r ≡ trace-length h k ⌝ }
 {
     (HEAD_BITS + DIGIT_BITS * (h.n * k) + 7) / 8
@@ -90,7 +90,7 @@ fn trace_length(h: Header, k: usize) -> usize
 // Writes a trace to the front of the buffer: the header and the steps made as one field, and then the digits.
 // The bytes past it keep their values.
 fn put_trace(h: Header, k: usize, d: &[i8; DIGITS], out: &mut [u8])
-    requires { ⌜ Limits h × (k ≤ trace-steps h) × StepsFit (h .n) k (now d) × (trace-length h k ≤ length (now out)) ⌝ }
+    requires { ⌜ Limits h × (k ≤ all-steps) × StepsFit (h .n) k (now d) × (trace-length h k ≤ length (now out)) ⌝ }
     ensures { λ _. ⌜ now (out .exit) ≡ written (now (out .entry)) (trace-fields h k (now (d .entry))) ⌝ }
 {
     bitfields::write_field(out, 0, HEAD_BITS, header_number(h) * 64 + k as u64);
@@ -105,8 +105,8 @@ fn writer_refusal(h: Header, k: usize, d: &[i8; DIGITS], room: usize) -> usize
     if 0 < c {
         return c;
     }
-    if k > job::trace_steps(h) {
-        return 10; // more steps than a trace of the job may hold
+    if too_many_steps(h, k) {
+        return 10; // more steps than a trace of the job, or 60 bits, may hold
     }
     if state::beyond(d, h.n, h.p, 0, k) {
         return 11; // a digit beyond p

@@ -2,8 +2,9 @@
 use mathlib.Core.Path.{_≡_}
 use Rattle.evaluator.specs.Evaluator.{smaller}
 use Rattle.state.specs.State.{state-last}
+use Rattle.job.proofs.Limits.{steps-small, scale-small}
 use Rattle.accuracy.specs.Accuracy.{budgets, advances}
-use Rattle.accuracy.proofs.Promised.{promise-refused, job-last-small, steppable, rows-readable, promise-short, promise-done}
+use Rattle.accuracy.proofs.Promised.{promise-refused, job-limits, job-last-small, steppable, rows-readable, promise-short, promise-done}
 use borrow.Author.Needs.{needs}
 use Rattle.accuracy.proofs.evaluate.Statement.{statement}
 use Rattle.accuracy.proofs.evaluate.Tie as tie
@@ -18,7 +19,12 @@ returns c =
     promise-refused (a .frame .now) (a .budgets .now) (a .out .now) (l .load .result) (l .load .ensures) (c .if1 .taken)
 
 last-step-requires : tie.Need-last-step-requires
-last-step-requires c κs = search needs
+last-step-requires c κs =
+    let e = c .before in
+    let l = e .before in
+    let a = l .before .before .before .args in
+    let b = job-limits (a .frame .now) (a .budgets .now) (a .out .now) (l .load .result) (l .load .ensures) (e .if1 .left) in
+    (steps-small _ (b .0), scale-small _ _ (b .1))
 
 steps-allowed-requires : tie.Need-steps-allowed-requires
 steps-allowed-requires c κs =

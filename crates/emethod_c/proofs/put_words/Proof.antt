@@ -13,7 +13,7 @@ use Rattle.trace.proofs.Digits.{digit-list-none}
 use Rattle.trace.specs.Inner.{digits-from}
 use Rattle.trace.proofs.Steps.{place-room}
 use Rattle.emethod_c.specs.Foreign.{header-words, word-count, most-words}
-use Rattle.emethod_c.proofs.Words.{word-count-most, k-most, same-sets, words-turn, words-all}
+use Rattle.emethod_c.proofs.Words.{word-count-most, same-sets, words-turn, words-all}
 use Rattle.emethod_c.proofs.put_words.Statement.{statement}
 use Rattle.emethod_c.proofs.put_words.Tie as tie
 
@@ -32,7 +32,7 @@ loop-holds c = (omega arith, refl, omega arith, rw (digit-list-none _ _))
 -- in a turn: there is a step more in the record, and room for it in the list
 module _ (t : tie.In-loop Inv-loop μ-loop) where
   last : t .before .loop .j < 60
-  last = let b = t .before .before .before .before .before in omega (arith, t .loop-test .taken, k-most (b .args .h) (b .args .k) (b .pre .0) (b .pre .1))
+  last = let b = t .before .before .before .before .before in omega (arith, t .loop-test .taken, b .pre .1)
 
   ends : t .before .loop .to + t .before .before .before .before .before .args .h .n ≤ word-count (t .before .before .before .before .before .args .h) (t .before .before .before .before .before .args .k)
   ends =

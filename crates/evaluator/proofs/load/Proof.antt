@@ -1,4 +1,4 @@
--- Refused by 1 to 7, or by 8 and 9, or else the fresh state of the job.
+-- Refused by 1 to 7, or by 8 and 15, or else the fresh state of the job.
 use borrow.Author.Needs.{needs}
 use Rattle.frame.proofs.ReadJob.{JobRead, Unpacked, unpack-limits, unpack-gives, part-long, part-within, part-small, job-made}
 use Rattle.evaluator.proofs.Loading.{load-short, load-refuses, load-makes}

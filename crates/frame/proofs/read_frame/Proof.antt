@@ -1,4 +1,4 @@
--- Refused by 1 to 7, by 8 and 9, or by 23, or else the numbers go to the list.
+-- Refused by 1 to 7, by 8 and 15, or by 23, or else the numbers go to the list.
 use borrow.Author.Needs.{needs}
 use mathlib.Core.Path.{_≡_, sym, ap, _∙_}
 use Rattle.job.specs.Header.{count}

@@ -1,7 +1,9 @@
--- The verdict on the arrays is that on the system.
+-- What is found of the arrays is what the system has.
 use borrow.Author.Needs.{needs}
-use mathlib.Core.Path.{refl, _∙_}
-use Rattle.frame.proofs.Verdicts.{verdict-arrays}
+use mathlib.Core.Path.{refl}
+use Rattle.frame.proofs.Verdicts.{scale-found, verdict-found}
+use Rattle.integers.specs.Flat.{at}
+use Rattle.scale.proofs.Smallest.{scale-small, sides-small}
 use Rattle.frame.proofs.set_up.Statement.{statement}
 use Rattle.frame.proofs.set_up.Tie as tie
 
@@ -11,21 +13,37 @@ matrix-requires c κs = search needs
 right-sides-requires : tie.Need-right-sides-requires
 right-sides-requires c κs = search needs
 
+scale-requires : tie.Need-scale-requires
+scale-requires c κs =
+    let z = c .before in
+    let s = z .before .before in
+    (s .pre .0, rw (z .right-sides .ensures) (sides-small (s .pre .0) (s .pre .1)))
+
+heavy-row-requires : tie.Need-heavy-row-requires
+heavy-row-requires c κs = search needs
+
 verdict-requires : tie.Need-verdict-requires
-verdict-requires c κs = search needs
+verdict-requires c κs =
+    let d = c .before .before in
+    let z = d .before .before in
+    let s = z .before .before in
+    (s .pre .0, rw (d .scale .ensures) (scale-small (s .args .h) (at (z .right-sides .result))))
 
 returns : tie.Need-returns
 returns c =
-    let d = c .verdict in
-    let z = c .before .before .before in
+    let w = c .before in
+    let d = w .before .before in
+    let z = d .before .before in
     let g = z .before in
     let s = g .before in
+    let n = s .pre .0 .order-most in
     record {
-      verdict = d .ensures ∙ verdict-arrays (s .args .h) (s .args .v .now) (s .pre .0 .order-most) (g .matrix .ensures) (z .right-sides .ensures);
+      verdict = verdict-found (s .args .h) (s .args .v .now) n (g .matrix .ensures) (z .right-sides .ensures) (w .heavy-row .ensures) (d .scale .ensures) (c .verdict .ensures);
       header = refl;
+      scale = scale-found (s .args .h) (s .args .v .now) n (g .matrix .ensures) (z .right-sides .ensures) (d .scale .ensures);
       matrix = g .matrix .ensures;
       right-sides = z .right-sides .ensures;
     }
 
 pub set-up-spec : {M : Type 1} → statement M
-set-up-spec = tie.close (tie.spec matrix-requires right-sides-requires verdict-requires returns)
+set-up-spec = tie.close (tie.spec matrix-requires right-sides-requires scale-requires heavy-row-requires verdict-requires returns)

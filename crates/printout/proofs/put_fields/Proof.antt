@@ -1,4 +1,4 @@
--- The four numbers, one after the other, and the newline. Each has at most 20 digits, so there is room for
+-- The five numbers, one after the other, and the newline. Each has at most 20 digits, so there is room for
 -- the next.
 use native.Mathlib.Omega.{arith}
 use borrow.Author.Needs.{needs}
@@ -27,10 +27,17 @@ put-natural-item-requires-4 c κs =
     let h = c .before .before .before .before .before .before .before .before .before .before .before .before .before .before .args .h in
     omega (arith, length-decimal (h .p), length-decimal (h .f), length-decimal (h .n), length-decimal (h .m))
 
+put-natural-item-requires-5 : tie.Need-put-natural-item-requires-5
+put-natural-item-requires-5 c κs =
+    let a = c .before .before .before .before .before .before .before .before .before .before .before .before .before .before .before .before .before .before .args in
+    let h = a .h in
+    omega (arith, length-decimal (h .p), length-decimal (h .f), length-decimal (h .n), length-decimal (h .m), length-decimal (a .scale))
+
 put-byte-requires : tie.Need-put-byte-requires
 put-byte-requires c κs =
-    let h = c .before .before .before .before .before .before .before .before .before .before .before .before .before .before .before .before .before .before .args .h in
-    omega (arith, length-decimal (h .p), length-decimal (h .f), length-decimal (h .n), length-decimal (h .m))
+    let a = c .before .before .before .before .before .before .before .before .before .before .before .before .before .before .before .before .before .before .before .before .before .before .args in
+    let h = a .h in
+    omega (arith, length-decimal (h .p), length-decimal (h .f), length-decimal (h .n), length-decimal (h .m), length-decimal (a .scale))
 
 same-length : tie.Need-same-length
 same-length c = search needs
@@ -39,12 +46,13 @@ returns : tie.Need-returns
 unfolding line-end
 returns c =
     let e = c .before .before in
-    let d = e .before .before .before .before in
+    let f = e .before .before .before .before in
+    let d = f .before .before .before .before in
     let b = d .before .before .before .before in
     let a = b .before .before .before .before in
     let k = a .before .before .before .before in
     put-then (k .put-natural-item .ensures)
-    (put-then (a .put-natural-item2 .ensures) (put-then (b .put-natural-item3 .ensures) (put-then (d .put-natural-item4 .ensures) (e .put-byte .ensures))))
+    (put-then (a .put-natural-item2 .ensures) (put-then (b .put-natural-item3 .ensures) (put-then (d .put-natural-item4 .ensures) (put-then (f .put-natural-item5 .ensures) (e .put-byte .ensures)))))
 
 pub put-fields-spec : {M : Type 1} → statement M
 put-fields-spec =
@@ -54,6 +62,7 @@ put-fields-spec =
     put-natural-item-requires-2
     put-natural-item-requires-3
     put-natural-item-requires-4
+    put-natural-item-requires-5
     put-byte-requires
     same-length
     returns)

@@ -16,14 +16,14 @@ put-step-lines-requires : tie.Need-put-step-lines-requires
 put-step-lines-requires c κs =
     let s = c .before .before .before .before .before .before in
     let t = s .args .s in
-    (order-small t (s .pre .0), made-small t (s .pre .0), omega (arith, length-header-line (t .header)))
+    (order-small t (s .pre .0), made-small t (s .pre .0), omega (arith, length-header-line (t .header) (t .scale)))
 
 put-readings-line-requires : tie.Need-put-readings-line-requires
 put-readings-line-requires c κs =
     let s = c .before .before .before .before .before .before .before .before .before .before in
     let t = s .args .s in (
       s .pre .0,
-      omega (arith, length-header-line (t .header), length-step-lines t 1 (t .k) (order-small t (s .pre .0)), made-small t (s .pre .0)),
+      omega (arith, length-header-line (t .header) (t .scale), length-step-lines t 1 (t .k) (order-small t (s .pre .0)), made-small t (s .pre .0)),
     )
 
 same-length : tie.Need-same-length

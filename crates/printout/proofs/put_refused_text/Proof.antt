@@ -15,17 +15,14 @@ put-bytes-requires c κs = search needs
 put-natural-item-requires : tie.Need-put-natural-item-requires
 put-natural-item-requires c κs = omega (arith, length-decimal (c .before .before .before .before .before .before .before .args .c))
 
-has-row-requires : tie.Need-has-row-requires
-has-row-requires c κs = search needs
-
 put-natural-item-requires-2 : tie.Need-put-natural-item-requires-2
 put-natural-item-requires-2 c κs =
-    let a = c .before .before .before .before .before .before .before .before .before .before .before .before .before .args in
+    let a = c .before .before .before .before .before .before .before .before .before .before .before .before .args in
     omega (arith, length-decimal (a .c), length-decimal (a .row))
 
 put-byte-requires : tie.Need-put-byte-requires
 put-byte-requires c κs =
-    let a = c .before .before .before .before .before .before .before .before .before .before .before .before .before .before .before .before .before .args in
+    let a = c .before .before .before .before .before .before .before .before .before .before .before .before .before .before .before .before .args in
     omega (arith, length-decimal (a .c), length-decimal (a .row))
 
 same-length : tie.Need-same-length
@@ -36,14 +33,14 @@ returns c =
     let e = c .before .before in
     let d = e .before .before .before .before in
     let t = d .before .before in
-    let n = t .before .before .before .before in
+    let n = t .before .before .before in
     let w = n .before .before .before .before in
     let a = w .before .before .before .before .args in
-    refused-row (a .c) (a .row) (t .before .has-row .ensures) (t .if1 .taken)
+    refused-row (a .c) (a .row) (t .if1 .taken)
     (put-then (w .put-bytes .ensures) (put-then (n .put-natural-item .ensures) (put-then (d .put-natural-item2 .ensures) (e .put-byte .ensures))))
 
 put-byte-requires-2 : tie.Need-put-byte-requires-2
-put-byte-requires-2 c κs = omega (arith, length-decimal (c .before .before .before .before .before .before .before .before .before .before .before .before .before .args .c))
+put-byte-requires-2 c κs = omega (arith, length-decimal (c .before .before .before .before .before .before .before .before .before .before .before .before .args .c))
 
 same-length-2 : tie.Need-same-length-2
 same-length-2 c = search needs
@@ -52,10 +49,10 @@ returns-2 : tie.Need-returns-2
 returns-2 c =
     let e = c .before .before in
     let t = e .before .before in
-    let n = t .before .before .before .before in
+    let n = t .before .before .before in
     let w = n .before .before .before .before in
     let a = w .before .before .before .before .args in
-    refused-plain (a .c) (a .row) (t .before .has-row .ensures) (t .if1 .left)
+    refused-plain (a .c) (a .row) (t .if1 .left)
     (put-then (w .put-bytes .ensures) (put-then (n .put-natural-item .ensures) (e .put-byte2 .ensures)))
 
 pub put-refused-text-spec : {M : Type 1} → statement M
@@ -65,7 +62,6 @@ put-refused-text-spec =
     slice-aggregate-put-bytes
     put-bytes-requires
     put-natural-item-requires
-    has-row-requires
     put-natural-item-requires-2
     put-byte-requires
     same-length

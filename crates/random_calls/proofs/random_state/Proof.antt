@@ -34,4 +34,5 @@ random-state-spec =
     (λ c. (search needs, search needs, search needs, search needs))
     (λ c κs. search needs)
     (λ c κs. search needs)
+    (λ c κs. search needs)
     (λ c. search needs))

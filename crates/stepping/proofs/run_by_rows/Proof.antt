@@ -3,11 +3,9 @@
 use mathlib.Core.Path.{_≡_, refl}
 use mathlib.Core.Bool.{true}
 use Prim.Native.Nat.{_-_, _≤_}
-use borrow.Author.Needs.{needs}
 use native.Mathlib.Omega.{arith}
 use lib.IntN.{pos}
 use lib.ListN.{length, replicate}
-use Rattle.job.proofs.Limits.{inner-bits-most}
 use Rattle.stepping.proofs.Limits.{may-sum-rows}
 use Rattle.state.specs.Inner.{state-of}
 use Rattle.stepping.proofs.Stepping.{Reached, rows-summed, first-limits, reached-start, reached-may, reached-next, steps-have-room}
@@ -15,37 +13,40 @@ use Rattle.stepping.proofs.run_by_rows.Statement.{statement}
 use Rattle.stepping.proofs.run_by_rows.Tie as tie
 
 abbrev Inv-loop : tie.InvT-loop
-Inv-loop h k made g z₀ digits₀ n r bits starts ends v₀ sums₀ j₀ z digits v sums j =
-    (j ≤ made) × (length sums ≡ 16) × Reached (state-of true h k g z₀ digits₀) j digits z (v .before) (v .chosen) sums
+Inv-loop h scale k made g z₀ digits₀ n r c bits starts ends v₀ sums₀ j₀ z digits v sums j =
+    (j ≤ made) × (length sums ≡ 16) × Reached (state-of true h scale k g z₀ digits₀) j digits z (v .before) (v .chosen) sums
 
 abbrev μ-loop : tie.MeasureT-loop
-μ-loop h k made g z₀ digits₀ n r bits starts ends v₀ sums₀ j₀ z digits v sums j = made - j
+μ-loop h scale k made g z₀ digits₀ n r c bits starts ends v₀ sums₀ j₀ z digits v sums j = made - j
 
 radix-requires : tie.Need-radix-requires Inv-loop μ-loop
 radix-requires c κs = c .pre .passes .limits .code-most
 
+scale-factor-requires : tie.Need-scale-factor-requires Inv-loop μ-loop
+scale-factor-requires c κs = let p = c .before .pre .passes in (p .limits, p .scaled)
+
 inner-bits-requires : tie.Need-inner-bits-requires Inv-loop μ-loop
-inner-bits-requires c κs = search needs
+inner-bits-requires c κs = let p = c .before .before .pre .passes in (p .limits, p .scaled)
 
 row-starts-requires : tie.Need-row-starts-requires Inv-loop μ-loop
-row-starts-requires c κs = let l = c .before .before .pre .passes .limits in (l .order-least, l .order-most)
+row-starts-requires c κs = let l = c .before .before .before .pre .passes .limits in (l .order-least, l .order-most)
 
 row-ends-requires : tie.Need-row-ends-requires Inv-loop μ-loop
-row-ends-requires c κs = c .before .before .before .pre .passes .limits .order-most
+row-ends-requires c κs = c .before .before .before .before .pre .passes .limits .order-most
 
 last-digits-requires : tie.Need-last-digits-requires Inv-loop μ-loop
-last-digits-requires c κs = let b = c .before .before .before .before .before .pre in (omega (arith, steps-have-room b), b .passes .limits .order-most)
+last-digits-requires c κs = let b = c .before .before .before .before .before .before .pre in (omega (arith, steps-have-room b), b .passes .limits .order-most)
 
 -- ---- the first sums
 
 abbrev start : tie.After-last-digits Inv-loop μ-loop → tie.Start Inv-loop μ-loop
-start d = d .before .before .before .before .before .before
+start d = d .before .before .before .before .before .before .before
 
 row-sums-requires : tie.Need-row-sums-requires Inv-loop μ-loop
 row-sums-requires c κs =
     let d = c .before .before .before .before .before in
     let b = start d .pre .passes in
-    (b .limits .order-most, may-sum-rows (inner-bits-most _ (b .limits)) (first-limits b (d .last-digits .ensures)), d .before .before .before .row-starts .ensures, d .before .before .row-ends .ensures)
+    (b .limits .order-most, may-sum-rows (first-limits b (d .last-digits .ensures)), d .before .before .before .row-starts .ensures, d .before .before .row-ends .ensures)
 
 loop-holds : tie.Need-loop-holds Inv-loop μ-loop
 loop-holds c =
@@ -67,7 +68,8 @@ step-by-rows-requires c κs =
     let i = c .before .before .before .before .before .before .before in
     let d = begun i in
     let v = i .before .loop .inv in (
-      reached-may (start d .pre) (i .loop-test .taken) (v .2) _ _ (d .before .before .before .before .before .radix .ensures) (d .before .before .before .before .inner-bits .ensures),
+      reached-may (start d .pre) (i .loop-test .taken) (v .2) _ _ _ (d .before .before .before .before .before .before .radix .ensures)
+          (d .before .before .before .before .before .scale-factor .ensures) (d .before .before .before .before .inner-bits .ensures),
       d .before .before .before .row-starts .ensures,
       d .before .before .row-ends .ensures,
       v .1,
@@ -101,6 +103,7 @@ run-by-rows-spec =
     Inv-loop
     μ-loop
     radix-requires
+    scale-factor-requires
     inner-bits-requires
     row-starts-requires
     row-ends-requires

@@ -7,7 +7,7 @@ use mir.Val.{toZ, ofZ}
 use mir.Facts.{toZ-ofZ}
 use Rattle.integers.proofs.Order.{zarith}
 use Rattle.system.specs.Inner.{largest-light}
-use Rattle.system.proofs.Verdicts.{heavy-found}
+use Rattle.system.proofs.Searches.{heavy-found}
 use Rattle.system.proofs.heavy_row.Statement.{statement}
 use Rattle.system.proofs.heavy_row.Tie as tie
 

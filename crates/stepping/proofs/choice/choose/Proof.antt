@@ -11,13 +11,13 @@ use Rattle.stepping.proofs.choice.choose.Statement.{statement}
 use Rattle.stepping.proofs.choice.choose.Tie as tie
 
 abbrev Inv-loop : tie.InvT-loop
-Inv-loop s z₀ new₀ n r f p i₀ z new i =
+Inv-loop s z₀ new₀ n r c f p i₀ z new i =
     (i ≤ n)
-    × (z ≡ filled (residual-from r p (2 ^ f) z₀ s) z₀ i)
-    × (new ≡ filled (digit-from r p (2 ^ f) z₀ s) new₀ i)
+    × (z ≡ filled (residual-from r c p (2 ^ f) z₀ s) z₀ i)
+    × (new ≡ filled (digit-from r c p (2 ^ f) z₀ s) new₀ i)
 
 abbrev μ-loop : tie.MeasureT-loop
-μ-loop s z₀ new₀ n r f p i₀ z new i = n - i
+μ-loop s z₀ new₀ n r c f p i₀ z new i = n - i
 
 loop-holds : tie.Need-loop-holds Inv-loop μ-loop
 loop-holds c = (omega arith, sym (filled-zero _ _), sym (filled-zero _ _))
@@ -35,13 +35,13 @@ element-copy-out-shifted-2 : tie.Need-element-copy-out-shifted-2 Inv-loop μ-loo
 element-copy-out-shifted-2 c = omega arith
 
 begun : (c : tie.In-loop Inv-loop μ-loop) → let s = c .before .before in
-    Begun (s .args .z .now) (s .args .s .now) (s .args .n) (s .args .r) (s .args .p) (s .args .f) (c .before .loop .i) (c .before .loop .z)
+    Begun (s .args .z .now) (s .args .s .now) (s .args .n) (s .args .r) (s .args .c) (s .args .p) (s .args .f) (c .before .loop .i) (c .before .loop .z)
 begun c =
     let s = c .before .before in
     record { bits = s .pre .0; may = s .pre .1; below = c .loop-test .taken; so-far = c .before .loop .inv .1 }
 
 shifted-requires : tie.Need-shifted-requires Inv-loop μ-loop
-shifted-requires c κs = let h = begun (c .before .before) in (h .may .radix, z-within h, s-within h)
+shifted-requires c κs = let h = begun (c .before .before) in (h .may .radix, h .may .factor, z-within h, s-within h)
 
 select-requires : tie.Need-select-requires Inv-loop μ-loop
 select-requires c κs =
@@ -62,8 +62,8 @@ residual-after-requires c κs =
     let w = c .before .before .shifted .ensures in
     (h .bits, w-within h _ w, q-within h _ w _ (c .before .select .ensures) (omega arith))
 
-mul-t12 : tie.Need-mul-t12 Inv-loop μ-loop
-mul-t12 c = omega arith
+mul-t13 : tie.Need-mul-t13 Inv-loop μ-loop
+mul-t13 c = omega arith
 
 element-set-from-z : tie.Need-element-set-from-z Inv-loop μ-loop
 element-set-from-z c = omega arith
@@ -106,7 +106,7 @@ choose-spec =
     narrow-requires
     element-set-from-new
     residual-after-requires
-    mul-t12
+    mul-t13
     element-set-from-z
     add-i
     loop-less

@@ -6,7 +6,7 @@ use native.Mathlib.Omega.{arith}
 use lib.ListN.{length}
 use Rattle.bitfields.specs.Layout.{bytes-for}
 use Rattle.bitfields.proofs.Reading.{field-lt}
-use Rattle.job.proofs.Limits.{digit-small, trace-small}
+use Rattle.job.proofs.Limits.{digit-small}
 use Rattle.trace.specs.Inner.{part-answer, part-bits, no-record}
 use Rattle.trace.proofs.Reading.{part-beyond, part-read, part-refused, size-facts}
 use Rattle.trace.proofs.reader.read_part.Statement.{statement}
@@ -29,7 +29,7 @@ refusing : (r : tie.After-size-refusal) → 0 < r .size-refusal .result → no-r
 refusing r z =
     part-refused (start r .args .h) (start r .args .b .now) (r .before .read-field .result) (r .size-refusal .result) (r .before .read-field .ensures) (r .size-refusal .ensures) z
 
-sized : (c : tie.Else1) → (c .before .before .read-field .result ≤ start (c .before) .args .h .m) × (length (start (c .before) .args .b .now) ≡ bytes-for (part-bits (start (c .before) .args .h) (c .before .before .read-field .result)))
+sized : (c : tie.Else1) → (c .before .before .read-field .result ≤ 60) × (length (start (c .before) .args .b .now) ≡ bytes-for (part-bits (start (c .before) .args .h) (c .before .before .read-field .result)))
 sized c =
     let r = c .before in
     size-facts (start r .args .h) (r .before .read-field .result) (start r .args .b .now) (r .size-refusal .result) (r .size-refusal .ensures) (c .if1 .left)
@@ -41,14 +41,14 @@ read-digits-requires : tie.Need-read-digits-requires
 read-digits-requires c κs =
     let l = start (c .before) .pre .1 in
     let f = sized c in
-    (omega arith, omega (arith, l .order-least), omega (arith, l .order-most), omega (arith, trace-small _ l))
+    (omega arith, omega (arith, l .order-least), omega (arith, l .order-most), f .0)
 
 beyond-requires : tie.Need-beyond-requires
 beyond-requires c κs =
     let e = c .before .before in
     let l = start (e .before) .pre .1 in
     let f = sized e in
-    (omega (arith, l .order-most), omega (arith, digit-small _ l), omega (arith, trace-small _ l))
+    (omega (arith, l .order-most), omega (arith, digit-small _ l), omega arith)
 
 no-record-requires-2 : tie.Need-no-record-requires-2
 no-record-requires-2 c κs = search needs

@@ -1,15 +1,16 @@
 -- `trace::size_refusal` meets its contract. The first condition that holds decides; with steps of 6 bits
 -- nothing overflows. Assumes nothing.
 use borrow.Author.Needs.{needs}
-use Prim.Native.Nat.{_≤_}
+use mathlib.Core.Path.{_≡_, sym, _∙_}
+use mathlib.Core.Bool.{false}
 use native.Mathlib.Omega.{arith}
-use Rattle.job.specs.Rules.{trace-steps}
+use Rattle.trace.specs.Trace.{too-many-steps}
 use Rattle.trace.proofs.Reading.{digits-few, size-fill, size-length, size-right, size-steps}
 use Rattle.trace.proofs.reader.size_refusal.Statement.{statement}
 use Rattle.trace.proofs.reader.size_refusal.Tie as tie
 
-trace-steps-requires : tie.Need-trace-steps-requires
-trace-steps-requires c κs = search needs
+too-many-steps-requires : tie.Need-too-many-steps-requires
+too-many-steps-requires c κs = search needs
 
 mul-bits : tie.Need-mul-bits
 mul-bits c = omega (arith, digits-few (c .before .before .before .pre .0) (c .before .before .before .pre .1))
@@ -24,13 +25,13 @@ add-size : tie.Need-add-size
 add-size c = omega (arith, digits-few (c .before .before .before .pre .0) (c .before .before .before .pre .1))
 
 -- the steps are not too many, once that is looked at
-few : (c : tie.Else1) → let a = c .before .before .before .before .args in a .k ≤ trace-steps (a .h)
-few c = omega (arith, c .before .before .trace-steps .ensures, c .if1 .left)
+few : (c : tie.Else1) → let a = c .before .before .before .before .args in too-many-steps (a .h) (a .k) ≡ false
+few c = sym (c .before .before .too-many-steps .ensures) ∙ c .if1 .left
 
 returns : tie.Need-returns
 returns c =
     let a = c .before .before .before .before .args in
-    size-steps (a .h) (a .k) (a .b .now) (omega (arith, c .before .before .trace-steps .ensures, c .if1 .taken))
+    size-steps (a .h) (a .k) (a .b .now) (sym (c .before .before .too-many-steps .ensures) ∙ c .if1 .taken)
 
 returns-2 : tie.Need-returns-2
 returns-2 c =
@@ -59,7 +60,7 @@ pub size-refusal-spec : {M : Type 1} → statement M
 size-refusal-spec =
     tie.close
     (tie.spec
-    trace-steps-requires
+    too-many-steps-requires
     mul-bits
     mul-bits-2
     add-bits

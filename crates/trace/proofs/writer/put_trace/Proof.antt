@@ -4,7 +4,6 @@ use borrow.Author.Needs.{needs}
 use Prim.Native.Nat.{_^_, _<_}
 use native.Mathlib.Omega.{arith}
 use Rattle.bitfields.proofs.Spelling.{slice-bytes}
-use Rattle.job.proofs.Limits.{trace-small}
 use Rattle.trace.proofs.RoundTrip.{fit-head}
 use Rattle.trace.proofs.Writing.{head-small, trace-put}
 use Rattle.trace.proofs.writer.put_trace.Statement.{statement}
@@ -24,9 +23,7 @@ add-write-field : tie.Need-add-write-field
 add-write-field c = omega (arith, small c)
 
 write-field-requires : tie.Need-write-field-requires
-write-field-requires c κs =
-    let p = c .before .before .before .pre in
-    (omega arith, omega arith, omega arith, omega (arith, small c, trace-small _ (p .0)))
+write-field-requires c κs = (omega arith, omega arith, omega arith, omega (arith, small c))
 
 write-digits-requires : tie.Need-write-digits-requires
 write-digits-requires c κs = search needs

@@ -3,7 +3,7 @@ use borrow.Author.Needs.{needs}
 use Prim.Native.Nat.{_≤_}
 use lib.ListN.{length}
 use Rattle.trace.specs.Trace.{trace-length, ValidRecord}
-use Rattle.trace.proofs.Valid.{steps-fit}
+use Rattle.trace.proofs.Valid.{record-steps-most, steps-fit}
 use Rattle.trace.proofs.WriterRefusals.{trace-answer-refused, trace-answer-written, writer-takes}
 use Rattle.trace.proofs.writer.write_trace.Statement.{statement}
 use Rattle.trace.proofs.writer.write_trace.Tie as tie
@@ -29,12 +29,12 @@ returns c =
 put-trace-requires : tie.Need-put-trace-requires
 put-trace-requires c κs =
     let v = taken (c .before .before .before) in
-    (v .0 .limits, v .0 .steps, steps-fit (v .0), v .1)
+    (v .0 .limits, record-steps-most (v .0), steps-fit (v .0), v .1)
 
 trace-length-requires : tie.Need-trace-length-requires
 trace-length-requires c κs =
     let v = taken (c .before .before .before .before .before .before) in
-    (v .0 .limits, v .0 .steps)
+    (v .0 .limits, record-steps-most (v .0))
 
 same-length : tie.Need-same-length
 same-length c = search needs

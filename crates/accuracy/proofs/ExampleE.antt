@@ -1,0 +1,90 @@
+-- Demand 3 at work on document 01's case E, p_0 9 in A, whose scale is 1: from the statement alone, the
+-- scale, the steps, how near two digits come, and the identity over the divided right-hand sides.
+use mathlib.Core.Path.{_≡_, refl}
+use mathlib.Core.List.{List, [], _∷_}
+use Prim.Native.Nat.{ℕ, zero, suc, _<_, _≤_}
+use native.Mathlib.Omega.{arith}
+use lib.IntN.{ℤ, pos, negsuc, natAbs, _+ℤ_, _-ℤ_, _*ℤ_}
+use Rattle.integers.specs.Flat.{at, list-from, stores}
+use Rattle.integers.specs.Sum.{dot, weight, sum, total}
+use Rattle.bitfields.specs.Layout.{field, number, bits, values-from}
+use Rattle.bitfields.specs.Twos.{decode}
+use Rattle.system.specs.Rows.{first-row-from}
+use Rattle.system.specs.System.{curve-entry, matrix, right-side}
+use Rattle.scale.specs.Scale.{every}
+use Rattle.frame.specs.Frame.{frame-checks, frame-refusal}
+use Rattle.stepping.specs.Steps.{stepped-digits, stepped-residuals, steps, one-step}
+use Rattle.recurrence.specs.Recurrence.{shifted, next-digit, next-residual, reading, select, digit-size}
+use Rattle.state.specs.State.{beyond, fresh, breaks-limit}
+use Rattle.evaluator.specs.Evaluator.{loaded, advanced, advance-checks, steps-made}
+use Rattle.accuracy.specs.Accuracy as calls
+use Rattle.accuracy.specs.Accuracy.{Call, advance, budgets, Accurate, ExactValues, G, b, after, held-digit, Y}
+use Rattle.accuracy.proofs.Demand3.{accurate}
+
+unfoldable pub frame-E : List ℕ
+frame-E = 1 ∷ 16 ∷ 68 ∷ 16 ∷ 146 ∷ 0 ∷ []
+
+-- all steps, and a single one
+unfoldable pub calls-E : List Call
+calls-E = advance 9 ∷ []
+
+unfoldable pub one-step-E : List Call
+one-step-E = advance 1 ∷ []
+
+-- ---- what the definitions give
+
+accepted-E : frame-refusal frame-E ≡ 0
+unfolding frame-E frame-checks field number bits values-from decode curve-entry matrix right-side first-row-from every weight total
+accepted-E = refl
+
+-- 11/16 and 8/16 solve both rows
+unfoldable pub values-E : ℕ → ℤ
+values-E = at (pos 11 ∷ pos 8 ∷ [])
+
+exact-E : ExactValues frame-E values-E 16
+unfolding frame-E values-E field number bits values-from decode curve-entry matrix right-side dot sum
+exact-E = record { solves = solves-row }
+  where
+    solves-row : (i : ℕ) → i < 2 → pos 16 *ℤ values-E i -ℤ dot 2 (G frame-E i) values-E ≡ pos 16 *ℤ b frame-E i
+    solves-row zero l = refl
+    solves-row (suc zero) l = refl
+    solves-row (suc (suc i)) l = absurd (omega arith)
+
+-- the first two digits of row 1 spell 2; after one step the digits are 1 and 1
+spelt-E : (Y frame-E calls-E 2 0 ≡ pos 2) × (held-digit frame-E one-step-E 1 0 ≡ pos 1) × (held-digit frame-E one-step-E 1 1 ≡ pos 1)
+unfolding frame-E calls-E one-step-E calls.run loaded advanced advance-checks steps-made steps one-step fresh breaks-limit beyond frame-checks field number bits values-from decode curve-entry matrix right-side first-row-from every weight total dot sum list-from stores stepped-digits stepped-residuals shifted next-digit next-residual select digit-size reading
+spelt-E = (refl, refl, refl)
+
+-- ---- what the statement gives
+
+module _ (holds : (calls : List Call) → Accurate frame-E calls) where
+  -- the last step is the fifth: m is 4, and the scale 1
+  steps-E : after frame-E calls-E .k ≡ 5
+  unfolding frame-E calls-E budgets field number bits values-from decode right-side every
+  steps-E = omega (arith, holds calls-E .steps-made)
+
+  steps-one : after frame-E one-step-E .k ≡ 1
+  unfolding frame-E one-step-E budgets field number bits values-from decode right-side every
+  steps-one = omega (arith, holds one-step-E .steps-made)
+
+  scale-E : after frame-E calls-E .scale ≡ 1
+  unfolding frame-E field number bits values-from decode right-side every
+  scale-E = holds calls-E .scale-held
+
+  -- row 1's value is 11/16; the first two digits spell 2, and r^s is 2: |11 × 4 - 16 × 2 × 2| ≤ 16 × 2
+  near-E : natAbs (pos 11 *ℤ pos 4 -ℤ pos 16 *ℤ pos 2 *ℤ pos 2) ≤ 32
+  unfolding frame-E values-E field number bits values-from decode right-side every
+  near-E =
+      omega (arith, rw (spelt-E .0) at (holds calls-E .near 2 (omega (arith, steps-E)) values-E 16 (omega (arith, steps-E)) exact-E 0 (omega arith)))
+
+  -- in units of 1/32, after one step: 2 × 9 - (32 × 1 - 8 × 1) = z + 8 × 1
+  identity-E : negsuc 5 ≡ at (after frame-E one-step-E .z) 0 +ℤ pos 8
+  unfolding frame-E field number bits values-from decode curve-entry matrix right-side dot sum reading every
+  identity-E = rw (steps-one, spelt-E .1, spelt-E .2) at (holds one-step-E .identity 0 (omega arith))
+
+-- the statement is proved
+pub numbers-E : (after frame-E calls-E .k ≡ 5) × (after frame-E calls-E .scale ≡ 1) × (natAbs (pos 11 *ℤ pos 4 -ℤ pos 16 *ℤ pos 2 *ℤ pos 2) ≤ 32)
+    × (negsuc 5 ≡ at (after frame-E one-step-E .z) 0 +ℤ pos 8)
+numbers-E =
+    let holds : (calls : List Call) → Accurate frame-E calls = accurate frame-E accepted-E in
+    (steps-E holds, scale-E holds, near-E holds, identity-E holds)

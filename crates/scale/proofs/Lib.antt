@@ -1,0 +1,3 @@
+pub mod Smallest
+pub mod LeadingZeros
+pub mod Example
