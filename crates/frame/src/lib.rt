@@ -148,8 +148,9 @@ pub fn set_up(h: Header, v: &[i64]) -> Job
 {
     let g = system::matrix(h, v);
     let z = system::right_sides(h, v);
+    let heavy = system::heavy_row(&g, h);
     let scale = scale::scale(&z, h);
-    let d = verdict(system::heavy_row(&g, h), h, scale);
+    let d = verdict(heavy, h, scale);
     Job {
         refusal: d.refusal,
         row: d.row,

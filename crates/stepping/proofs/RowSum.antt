@@ -1,7 +1,7 @@
 -- The sum of a row as the code makes it, one turn of its loop, and w made of it. Cited by the proofs of
 -- `row_sum` and `shifted`.
 use mathlib.Core.Path.{_≡_, refl, sym, ap, _∙_}
-use mathlib.Core.List.{List}
+use mathlib.Core.List.{List, [], _∷_}
 use Prim.Native.Nat.{ℕ, _+_, _*_, _^_, _<_, _≤_}
 use native.Mathlib.Numerals.{add-one}
 use native.Mathlib.Omega.{arith}
@@ -11,6 +11,7 @@ use mir.Syntax.{w8, w64}
 use mir.Val.{SFits, toZ, ofZ}
 use Rattle.integers.specs.Sum.{Within, dot, weight}
 use Rattle.integers.proofs.Machine.{Machine, known, bounded, cast, machs, machine-fits, machine-eq}
+use Rattle.integers.proofs.Normal.{solve, polys}
 use Rattle.integers.proofs.Product.{dot-zero, dot-suc, abs-dot, weight-le, entry-le-weight}
 use Rattle.integers.specs.Flat.{at, entry}
 use Rattle.stepping.specs.Inner.{MaySum}
@@ -76,27 +77,37 @@ module _ {g d : List ℤ} {i n : ℕ} (h : MaySum g i n d) where
   pub row-stored : (s : ℤ) → s ≡ dot n (entry g i) (at d) → toZ w64 (ofZ w64 s) ≡ dot n (entry g i) (at d)
   row-stored s es = let a = known s (dot n (entry g i) (at d)) (2 ^ 48) es (part-small n (omega arith)) in machine-eq (search machs depth 9) tt refl
 
--- ---- w, of a row's residual z and its sum s, which is c units
+-- ---- w, of a row's residual z and its sum s: r z + q s
 
-module _ (z s : ℤ) (r c : ℕ) (hr : r ≤ 16) (hc : c ≤ 16) (hz : Within z (2 ^ 44)) (hs : Within s (2 ^ 48)) where
+module _ (z s : ℤ) (r q : ℕ) (hr : r ≤ 16) (hq : q ≤ 256) (hz : Within z (2 ^ 44)) (hs : Within s (2 ^ 48)) where
   abbrev the-radix : Machine (toZ w64 r)
   the-radix = cast w64 r 16 hr
 
-  abbrev the-factor : Machine (toZ w64 c)
-  the-factor = cast w64 c 16 hc
+  abbrev the-units : Machine (toZ w64 q)
+  the-units = cast w64 q 256 hq
 
-  -- the sum in the unit of residuals
-  abbrev finer-sum : ℤ
-  finer-sum = toZ w64 c *ℤ toZ w64 (ofZ w64 s)
+  -- the two products, as the machine has them
+  abbrev left : ℤ
+  left = toZ w64 r *ℤ toZ w64 (ofZ w64 z)
 
-  pub finer-fits : SFits w64 finer-sum
-  finer-fits = let a = the-factor in machine-fits (search machs depth 9) tt
+  abbrev right : ℤ
+  right = toZ w64 q *ℤ toZ w64 (ofZ w64 s)
 
-  pub added-fits : SFits w64 (toZ w64 (ofZ w64 z) +ℤ toZ w64 (ofZ w64 finer-sum))
-  added-fits = let a = the-factor in machine-fits (search machs depth 12) tt
+  pub left-fits : SFits w64 left
+  left-fits = let a = the-radix in machine-fits (search machs depth 9) tt
 
-  pub shifted-fits : SFits w64 (toZ w64 r *ℤ toZ w64 (ofZ w64 (toZ w64 (ofZ w64 z) +ℤ toZ w64 (ofZ w64 finer-sum))))
-  shifted-fits = let a = the-factor in let b = the-radix in machine-fits (search machs depth 15) tt
+  pub right-fits : SFits w64 right
+  right-fits = let a = the-units in machine-fits (search machs depth 9) tt
 
-  pub shifted-is : toZ w64 (ofZ w64 (toZ w64 r *ℤ toZ w64 (ofZ w64 (toZ w64 (ofZ w64 z) +ℤ toZ w64 (ofZ w64 finer-sum))))) ≡ pos r *ℤ (z +ℤ pos c *ℤ s)
-  shifted-is = let a = the-factor in let b = the-radix in machine-eq (search machs depth 15) tt refl
+  pub shifted-fits : SFits w64 (toZ w64 (ofZ w64 left) +ℤ toZ w64 (ofZ w64 right))
+  shifted-fits = let a = the-radix in let b = the-units in machine-fits (search machs depth 12) tt
+
+  pub shifted-is : toZ w64 (ofZ w64 (toZ w64 (ofZ w64 left) +ℤ toZ w64 (ofZ w64 right))) ≡ pos r *ℤ z +ℤ pos q *ℤ s
+  shifted-is = let a = the-radix in let b = the-units in machine-eq (search machs depth 12) tt refl
+
+-- with q = r c it is document 01's r (z + c s)
+pub shifted-together : (z s : ℤ) (r c : ℕ) → pos r *ℤ z +ℤ pos (r * c) *ℤ s ≡ pos r *ℤ (z +ℤ pos c *ℤ s)
+shifted-together z s r c = together (pos r) (pos c) z s
+  where
+    together : (r c z s : ℤ) → r *ℤ z +ℤ r *ℤ c *ℤ s ≡ r *ℤ (z +ℤ c *ℤ s)
+    together r c z s = solve (r ∷ c ∷ z ∷ s ∷ []) (search polys depth 12) (search polys depth 12) tt

@@ -18,6 +18,7 @@ use Rattle.job.specs.Rules.{bound-over, bound-under}
 use Rattle.stepping.specs.Steps.{filled}
 use Rattle.stepping.specs.Inner.{shifted-by, digit-from, residual-from, MayChoose}
 use Rattle.stepping.proofs.Chosen.{unit-within}
+use Rattle.stepping.proofs.RowSum.{shifted-together}
 use Rattle.stepping.proofs.Stepped.{filled-past}
 
 -- A turn for row i: `v` are the residuals as the loop has them, those of the rows below i new and the
@@ -74,6 +75,9 @@ module _ {z s : List ℤ} {n r c p f i : ℕ} {v : List ℤ} (h : Begun z s n r 
   s-read = let a = the-s in machine-eq (search machs depth 9) tt refl
 
   -- what `shifted` asks
+  pub units-most : r * c ≤ 256
+  units-most = mul-le-mul (h .may .radix) (h .may .factor)
+
   pub z-within : Within (toZ w64 (ofZ w64 (at v i))) (2 ^ 44)
   z-within = let a = the-z in machine-within (search machs depth 9) tt
 
@@ -81,9 +85,9 @@ module _ {z s : List ℤ} {n r c p f i : ℕ} {v : List ℤ} (h : Begun z s n r 
   s-within = let a = the-s in machine-within (search machs depth 9) tt
 
   -- `w` is what `shifted` gave
-  module _ (w : ℤ) (ew : w ≡ pos r *ℤ (toZ w64 (ofZ w64 (at v i)) +ℤ pos c *ℤ toZ w64 (ofZ w64 (at s i)))) where
+  module _ (w : ℤ) (ew : w ≡ pos r *ℤ toZ w64 (ofZ w64 (at v i)) +ℤ pos (r * c) *ℤ toZ w64 (ofZ w64 (at s i))) where
     w-is : w ≡ W
-    w-is = ew ∙ rw (z-read, s-read) refl
+    w-is = ew ∙ rw (z-read, s-read) (shifted-together (at z i) (at s i) r c)
 
     abbrev the-w : Machine w
     the-w = known w W (2 ^ 49) w-is W-small

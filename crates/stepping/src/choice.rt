@@ -50,12 +50,12 @@ fn select(w: i64, f: usize, p: usize) -> i64
     if w < 0 { 0 - q } else { q }
 }
 
-// Document 01's w: a row's residual z and its sum s, of c units each, times r.
-fn shifted(z: i64, s: i64, r: usize, c: usize) -> i64
-    requires { ⌜ (r ≤ 16) × (c ≤ 16) × Within z (2 ^ 44) × Within s (2 ^ 48) ⌝ }
-    ensures { λ w. ⌜ w ≡ pos r *ℤ (z +ℤ pos c *ℤ s) ⌝ }
+// Document 01's w: r times a row's residual z, and its sum s, a unit of which is q units of w.
+fn shifted(z: i64, s: i64, r: usize, q: usize) -> i64
+    requires { ⌜ (r ≤ 16) × (q ≤ 256) × Within z (2 ^ 44) × Within s (2 ^ 48) ⌝ }
+    ensures { λ w. ⌜ w ≡ pos r *ℤ z +ℤ pos q *ℤ s ⌝ }
 {
-    (r as i64) * (z + (c as i64) * s)
+    (r as i64) * z + (q as i64) * s
 }
 
 // The residual that digit q leaves of w.
@@ -83,9 +83,10 @@ pub fn choose(
     ensures digits { λ _. ⌜ now (new .exit) ≡ filled (digit-from r c p (2 ^ f) (now (z .entry)) (now (s .entry))) (now (new .entry)) n ⌝ }
     ensures residuals { λ _. ⌜ now (z .exit) ≡ filled (residual-from r c p (2 ^ f) (now (z .entry)) (now (s .entry))) (now (z .entry)) n ⌝ }
 {
+    let units = r * c;
     let mut i: usize = 0;
     while i < n {
-        let w = shifted(z[i], s[i], r, c);
+        let w = shifted(z[i], s[i], r, units);
         let q = select(w, f, p);
         new[i] = integers::narrow(q);
         z[i] = residual_after(w, q, f);

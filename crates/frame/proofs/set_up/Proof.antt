@@ -13,27 +13,26 @@ matrix-requires c κs = search needs
 right-sides-requires : tie.Need-right-sides-requires
 right-sides-requires c κs = search needs
 
-scale-requires : tie.Need-scale-requires
-scale-requires c κs =
-    let z = c .before in
-    let s = z .before .before in
-    (s .pre .0, rw (z .right-sides .ensures) (sides-small (s .pre .0) (s .pre .1)))
-
 heavy-row-requires : tie.Need-heavy-row-requires
 heavy-row-requires c κs = search needs
 
+scale-requires : tie.Need-scale-requires
+scale-requires c κs =
+    let z = c .before .before .before in
+    let s = z .before .before in
+    (s .pre .0, rw (z .right-sides .ensures) (sides-small (s .pre .0) (s .pre .1)))
+
 verdict-requires : tie.Need-verdict-requires
 verdict-requires c κs =
-    let d = c .before .before in
-    let z = d .before .before in
+    let z = c .before .before .before .before in
     let s = z .before .before in
-    (s .pre .0, rw (d .scale .ensures) (scale-small (s .args .h) (at (z .right-sides .result))))
+    (s .pre .0, rw (c .scale .ensures) (scale-small (s .args .h) (at (z .right-sides .result))))
 
 returns : tie.Need-returns
 returns c =
-    let w = c .before in
-    let d = w .before .before in
-    let z = d .before .before in
+    let d = c .before in
+    let w = d .before .before in
+    let z = w .before .before in
     let g = z .before in
     let s = g .before in
     let n = s .pre .0 .order-most in
@@ -46,4 +45,4 @@ returns c =
     }
 
 pub set-up-spec : {M : Type 1} → statement M
-set-up-spec = tie.close (tie.spec matrix-requires right-sides-requires scale-requires heavy-row-requires verdict-requires returns)
+set-up-spec = tie.close (tie.spec matrix-requires right-sides-requires heavy-row-requires scale-requires verdict-requires returns)

@@ -2,22 +2,26 @@
 -- measure is what is left of the rows.
 use mathlib.Core.Path.{_≡_, sym}
 use Prim.Native.Nat.{_-_, _≤_, _^_}
+use native.Mathlib.Nat.{mul-le-mul}
 use native.Mathlib.Omega.{arith}
 use Rattle.stepping.specs.Steps.{filled}
 use Rattle.stepping.specs.Inner.{digit-from, residual-from}
 use Rattle.stepping.proofs.Stepped.{filled-zero, filled-next}
-use Rattle.stepping.proofs.Turn.{Begun, z-within, s-within, w-within, q-within, digit-stored, residual-stored}
+use Rattle.stepping.proofs.Turn.{Begun, units-most, z-within, s-within, w-within, q-within, digit-stored, residual-stored}
 use Rattle.stepping.proofs.choice.choose.Statement.{statement}
 use Rattle.stepping.proofs.choice.choose.Tie as tie
 
 abbrev Inv-loop : tie.InvT-loop
-Inv-loop s z₀ new₀ n r c f p i₀ z new i =
+Inv-loop s z₀ new₀ n r c f p units i₀ z new i =
     (i ≤ n)
     × (z ≡ filled (residual-from r c p (2 ^ f) z₀ s) z₀ i)
     × (new ≡ filled (digit-from r c p (2 ^ f) z₀ s) new₀ i)
 
 abbrev μ-loop : tie.MeasureT-loop
-μ-loop s z₀ new₀ n r c f p i₀ z new i = n - i
+μ-loop s z₀ new₀ n r c f p units i₀ z new i = n - i
+
+mul-units : tie.Need-mul-units Inv-loop μ-loop
+mul-units c = omega (arith, mul-le-mul (c .pre .1 .radix) (c .pre .1 .factor))
 
 loop-holds : tie.Need-loop-holds Inv-loop μ-loop
 loop-holds c = (omega arith, sym (filled-zero _ _), sym (filled-zero _ _))
@@ -41,7 +45,7 @@ begun c =
     record { bits = s .pre .0; may = s .pre .1; below = c .loop-test .taken; so-far = c .before .loop .inv .1 }
 
 shifted-requires : tie.Need-shifted-requires Inv-loop μ-loop
-shifted-requires c κs = let h = begun (c .before .before) in (h .may .radix, h .may .factor, z-within h, s-within h)
+shifted-requires c κs = let h = begun (c .before .before) in (h .may .radix, units-most h, z-within h, s-within h)
 
 select-requires : tie.Need-select-requires Inv-loop μ-loop
 select-requires c κs =
@@ -62,8 +66,8 @@ residual-after-requires c κs =
     let w = c .before .before .shifted .ensures in
     (h .bits, w-within h _ w, q-within h _ w _ (c .before .select .ensures) (omega arith))
 
-mul-t13 : tie.Need-mul-t13 Inv-loop μ-loop
-mul-t13 c = omega arith
+mul-t14 : tie.Need-mul-t14 Inv-loop μ-loop
+mul-t14 c = omega arith
 
 element-set-from-z : tie.Need-element-set-from-z Inv-loop μ-loop
 element-set-from-z c = omega arith
@@ -96,6 +100,7 @@ choose-spec =
     (tie.spec
     Inv-loop
     μ-loop
+    mul-units
     loop-holds
     mul-shifted
     element-copy-out-shifted
@@ -106,7 +111,7 @@ choose-spec =
     narrow-requires
     element-set-from-new
     residual-after-requires
-    mul-t13
+    mul-t14
     element-set-from-z
     add-i
     loop-less
