@@ -1,18 +1,29 @@
 -- What a job that can make a step lets the code do: sum its rows, tabulate their products, and choose a
 -- digit in each. Cited by the proofs of the functions that make several steps.
-use mathlib.Core.Path.{_≡_}
+use mathlib.Core.Path.{_≡_, refl}
 use mathlib.Core.List.{List}
-use Prim.Native.Nat.{ℕ, _^_, _<_, _≤_}
+use Prim.Native.Nat.{ℕ, zero, suc, _/_, _^_, _<_, _≤_}
 use native.Mathlib.Omega.{arith}
 use lib.IntN.{ℤ, pos, natAbs}
+use lib.Pow.{pow-mono}
 use Rattle.integers.specs.Flat.{at, entry}
 use Rattle.integers.specs.Sum.{weight}
 use Rattle.integers.proofs.Product.{abs-dot, dot-scale, entry-le-weight}
 use Rattle.job.specs.Rules.{bound-over, bound-under}
+use Rattle.job.specs.declared.Header.{Header}
+use Rattle.job.specs.Header.{Limits, digit-bits, radix}
 use Rattle.recurrence.specs.Recurrence.{shifted, LightRows, WithinBounds}
 use Rattle.recurrence.proofs.Theorems.{bound}
 use Rattle.stepping.specs.Inner.{MayChoose, Signs, Summed, MaySumRows, MayTabulate}
 use Rattle.stepping.specs.Steps.{finer}
+
+-- digits up to 1 are those of radix 2
+pub radix-two : {h : Header} → Limits h → h .p ≡ 1 → 2 ≡ radix (h .code)
+radix-two {h} l e = two (h .code) (rw e at (l .digit-least))
+  where
+    two : (code : ℕ) → radix code / 2 ≤ 1 → 2 ≡ radix code
+    two zero d = refl
+    two (suc c) d = omega (arith, d, pow-mono {i = 2} {j = digit-bits (suc c)} (omega arith))
 
 -- document 01's limits on a job and on its numbers: light rows, residuals within their bound and digits
 -- within p. u is the unit of the residuals, and c of these make one unit of the matrix.

@@ -173,7 +173,7 @@ fn step_by_columns<'a>(
     }
 }
 
-// Makes the steps with the products looked up in a table.
+// Makes the steps with the products looked up in a table. The radix of digits up to 1 is 2.
 fn run_by_columns(
     h: Header,
     scale: usize,
@@ -188,7 +188,6 @@ fn run_by_columns(
     ensures digits { λ _. ⌜ now (digits .exit) ≡ steps (state-of true h scale k (now (g .entry)) (now (z .entry)) (now (digits .entry))) made .digits ⌝ }
 {
     let n = h.n;
-    let r = job::radix(h.code);
     let c = job::scale_factor(h, scale);
     let bits = job::inner_bits(h, scale);
     let table = sums::products(g, n);
@@ -204,7 +203,7 @@ fn run_by_columns(
         v = step_by_columns(
             h,
             scale,
-            r,
+            2,
             c,
             bits,
             k + j,

@@ -4,7 +4,7 @@ use mathlib.Core.Path.{_≡_}
 use mathlib.Core.Bool.{true}
 use Prim.Native.Nat.{_-_, _≤_}
 use native.Mathlib.Omega.{arith}
-use Rattle.stepping.proofs.Limits.{may-tabulate, digits-signs}
+use Rattle.stepping.proofs.Limits.{radix-two, may-tabulate, digits-signs}
 use Rattle.stepping.proofs.Table.{table-summed}
 use Rattle.state.specs.Inner.{state-of}
 use Rattle.stepping.proofs.Kept as kept
@@ -13,31 +13,28 @@ use Rattle.stepping.proofs.run_by_columns.Statement.{statement}
 use Rattle.stepping.proofs.run_by_columns.Tie as tie
 
 abbrev Inv-loop : tie.InvT-loop
-Inv-loop h scale k made g z₀ digits₀ n r c bits table v₀ sums₀ j₀ z digits v sums j =
+Inv-loop h scale k made g z₀ digits₀ n c bits table v₀ sums₀ j₀ z digits v sums j =
     (j ≤ made) × Reached (state-of true h scale k g z₀ digits₀) j digits z (v .before) (v .chosen) sums
 
 abbrev μ-loop : tie.MeasureT-loop
-μ-loop h scale k made g z₀ digits₀ n r c bits table v₀ sums₀ j₀ z digits v sums j = made - j
-
-radix-requires : tie.Need-radix-requires Inv-loop μ-loop
-radix-requires c κs = c .pre .0 .passes .limits .code-most
+μ-loop h scale k made g z₀ digits₀ n c bits table v₀ sums₀ j₀ z digits v sums j = made - j
 
 scale-factor-requires : tie.Need-scale-factor-requires Inv-loop μ-loop
-scale-factor-requires c κs = let p = c .before .pre .0 .passes in (p .limits, p .scaled)
+scale-factor-requires c κs = let p = c .pre .0 .passes in (p .limits, p .scaled)
 
 inner-bits-requires : tie.Need-inner-bits-requires Inv-loop μ-loop
-inner-bits-requires c κs = let p = c .before .before .pre .0 .passes in (p .limits, p .scaled)
+inner-bits-requires c κs = let p = c .before .pre .0 .passes in (p .limits, p .scaled)
 
 products-requires : tie.Need-products-requires Inv-loop μ-loop
-products-requires c κs = let b = c .before .before .before .pre .0 .passes in (b .limits .order-most, may-tabulate (kept.keeps-limits _ b))
+products-requires c κs = let b = c .before .before .pre .0 .passes in (b .limits .order-most, may-tabulate (kept.keeps-limits _ b))
 
 last-digits-requires : tie.Need-last-digits-requires Inv-loop μ-loop
-last-digits-requires c κs = let b = c .before .before .before .before .before .pre .0 in (omega (arith, steps-have-room b), b .passes .limits .order-most)
+last-digits-requires c κs = let b = c .before .before .before .before .pre .0 in (omega (arith, steps-have-room b), b .passes .limits .order-most)
 
 -- ---- the first sums
 
 abbrev start : tie.After-last-digits Inv-loop μ-loop → tie.Start Inv-loop μ-loop
-start d = d .before .before .before .before .before .before
+start d = d .before .before .before .before .before
 
 column-sums-requires : tie.Need-column-sums-requires Inv-loop μ-loop
 column-sums-requires c κs =
@@ -64,7 +61,7 @@ step-by-columns-requires c κs =
     let i = c .before .before .before .before .before .before in
     let d = begun i in
     let p = start d .pre in (
-      reached-may (p .0) (i .loop-test .taken) (i .before .loop .inv .1) _ _ _ (d .before .before .before .before .before .radix .ensures)
+      reached-may (p .0) (i .loop-test .taken) (i .before .loop .inv .1) _ _ _ (radix-two (p .0 .passes .limits) (p .1))
           (d .before .before .before .before .scale-factor .ensures) (d .before .before .before .inner-bits .ensures),
       d .before .before .products .ensures,
       p .1,
@@ -96,7 +93,6 @@ run-by-columns-spec =
     (tie.spec
     Inv-loop
     μ-loop
-    radix-requires
     scale-factor-requires
     inner-bits-requires
     products-requires
