@@ -141,13 +141,14 @@ fn verdict(heavy: usize, h: Header, scale: usize) -> Verdict
     Verdict { refusal: 0, row: 0 }
 }
 
-// The job of a header and its numbers: its system and its scale, and refusals 8 and 15 of them.
+// The job of a header and its numbers: its system and its scale, and refusals 8 and 15 of them. The right-hand
+// sides come first and the scale last: looked at right after they are stored, they would make it wait.
 pub fn set_up(h: Header, v: &[i64]) -> Job
     requires { ⌜ Limits h × Numbers (count h) (now v) ⌝ }
     ensures { λ r. ⌜ SetUp h (now (v .entry)) r ⌝ }
 {
-    let g = system::matrix(h, v);
     let z = system::right_sides(h, v);
+    let g = system::matrix(h, v);
     let heavy = system::heavy_row(&g, h);
     let scale = scale::scale(&z, h);
     let d = verdict(heavy, h, scale);
