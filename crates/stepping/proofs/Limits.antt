@@ -2,7 +2,8 @@
 -- digit in each. Cited by the proofs of the functions that make several steps.
 use mathlib.Core.Path.{_≡_, refl}
 use mathlib.Core.List.{List}
-use Prim.Native.Nat.{ℕ, zero, suc, _/_, _^_, _<_, _≤_}
+use Prim.Native.Nat.{ℕ, zero, suc, _*_, _/_, _^_, _<_, _≤_}
+use native.Mathlib.Nat.{mul-le-mul}
 use native.Mathlib.Omega.{arith}
 use lib.IntN.{ℤ, pos, natAbs}
 use lib.Pow.{pow-mono}
@@ -14,8 +15,9 @@ use Rattle.job.specs.declared.Header.{Header}
 use Rattle.job.specs.Header.{Limits, digit-bits, radix}
 use Rattle.recurrence.specs.Recurrence.{shifted, LightRows, WithinBounds}
 use Rattle.recurrence.proofs.Theorems.{bound}
-use Rattle.stepping.specs.Inner.{MayChoose, Signs, Summed, MaySumRows, MayTabulate}
+use Rattle.stepping.specs.Inner.{row-dot, MayChoose, Signs, Summed, MaySumRows, MayTabulate}
 use Rattle.stepping.specs.Steps.{finer}
+use Rattle.stepping.proofs.RowSum.{shifted-together}
 
 -- digits up to 1 are those of radix 2
 pub radix-two : {h : Header} → Limits h → h .p ≡ 1 → 2 ≡ radix (h .code)
@@ -59,15 +61,15 @@ module _ {n r c p u : ℕ} {g z d : List ℤ} (h : KeepsLimits n r c p u g z d) 
     sum-small : (i : ℕ) → i < n → natAbs (at s i) ≤ 2 ^ 48
     sum-small i l = rw (sums .rows i l) (omega (arith, abs-dot n (entry g i) (at d) 15 (may-sum-rows i l .digits), h .weights i l))
 
-    pub may-choose-from : MayChoose n r c p u z s
+    pub may-choose-from : MayChoose n r (r * c) p u z s
     unfolding shifted
     may-choose-from =
         record {
           order = h .order;
           radix = h .radix .1;
-          factor = h .factor;
+          units = mul-le-mul (h .radix .1) (h .factor);
           largest = h .largest;
           residuals = λ i l. omega (arith, h .within .z-small i l, h .unit-most);
           sums = sum-small;
-          bound = λ i l. rw (sums .rows i l, ← dot-scale n (pos c) (entry g i) (at d)) (bound (h .light) (h .within) i l);
+          bound = λ i l. rw (sums .rows i l, shifted-together (at z i) (row-dot n g d i) r c, ← dot-scale n (pos c) (entry g i) (at d)) (bound (h .light) (h .within) i l);
         }

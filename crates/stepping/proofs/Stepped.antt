@@ -20,6 +20,7 @@ use Rattle.job.specs.Rules.{bound-over, bound-under}
 use Rattle.stepping.specs.Steps.{filled, finer, stepped-digits, stepped-residuals}
 use Rattle.stepping.specs.Inner.{digit-from, residual-from, Vector, row-dot, Summed}
 use Rattle.stepping.proofs.Limits.{KeepsLimits}
+use Rattle.stepping.proofs.RowSum.{shifted-together}
 
 -- ---- a list filled in the rows below n
 
@@ -116,14 +117,14 @@ filled-summed {n} {g} {d} {s} v size order e =
     record { rows = λ i l. rw e (filled-row (row-dot n g d) v n i l (omega (arith, size))) }
 
 -- chosen from the rows' sums, digits and residuals are those of the step
-module _ {n : ℕ} {g d s : List ℤ} (sums : Summed n g d s) (r c p u : ℕ) (z : List ℤ) where
-  pub filled-stepped : {v : List ℤ} → Vector n v → filled (digit-from r c p u z s) v n ≡ stepped-digits n r c p u g z d
+module _ {n : ℕ} {g d s : List ℤ} (sums : Summed n g d s) (r c p u : ℕ) (z : List ℤ) {q : ℕ} (e : q ≡ r * c) where
+  pub filled-stepped : {v : List ℤ} → Vector n v → filled (digit-from r q p u z s) v n ≡ stepped-digits n r c p u g z d
   unfolding stepped-digits next-digit shifted
-  filled-stepped h = filled-vector (digit-from r c p u z s) h ∙ filled-ext _ _ _ n (λ i l. rw (sums .rows i l, dot-scale n (pos c) (entry g i) (at d)) refl)
+  filled-stepped h = filled-vector (digit-from r q p u z s) h ∙ filled-ext _ _ _ n (λ i l. rw (e, sums .rows i l, shifted-together (at z i) (row-dot n g d i) r c, dot-scale n (pos c) (entry g i) (at d)) refl)
 
-  pub filled-left : filled (residual-from r c p u z s) z n ≡ stepped-residuals n r c p u g z d
+  pub filled-left : filled (residual-from r q p u z s) z n ≡ stepped-residuals n r c p u g z d
   unfolding stepped-residuals next-residual next-digit shifted
-  filled-left = filled-ext _ _ _ n (λ i l. rw (sums .rows i l, dot-scale n (pos c) (entry g i) (at d)) refl)
+  filled-left = filled-ext _ _ _ n (λ i l. rw (e, sums .rows i l, shifted-together (at z i) (row-dot n g d i) r c, dot-scale n (pos c) (entry g i) (at d)) refl)
 
 -- a step leaves what can make the next one; z′ and d′ are what it gave
 pub keeps-limits-next : {n r c p u : ℕ} {g z d z′ d′ : List ℤ} → 0 < u → KeepsLimits n r c p u g z d →

@@ -100,7 +100,7 @@ pub first-limits : {s : State} {before : List ℤ} → PassesLimits s → before
     → KeepsLimits (s .header .n) (radix (s .header .code)) (state-factor s) (s .header .p) (state-unit s) (s .g) (s .z) before
 first-limits b e = rw e (keeps-limits _ b)
 
-module _ {s : State} {r c bits : ℕ} {before chosen sums : List ℤ} (a : MayStepOnce s r c bits before chosen sums) where
+module _ {s : State} {r q bits : ℕ} {before chosen sums : List ℤ} (a : MayStepOnce s r q bits before chosen sums) where
   abbrev n : ℕ
   n = s .header .n
 
@@ -110,18 +110,18 @@ module _ {s : State} {r c bits : ℕ} {before chosen sums : List ℤ} (a : MaySt
   abbrev u : ℕ
   u = 2 ^ bits
 
-  step-limits : KeepsLimits n r c p u (s .g) (s .z) before
-  step-limits = rw (a .radix-is, a .factor-is, a .bits-are .0) (first-limits (a .may .passes) (a .between .last))
+  step-limits : KeepsLimits n r (state-factor s) p u (s .g) (s .z) before
+  step-limits = rw (a .radix-is, a .bits-are .0) (first-limits (a .may .passes) (a .between .last))
 
-  pub may-choose : (bits ≤ 44) × MayChoose n r c p u (s .z) sums
-  may-choose = (a .bits-are .1, may-choose-from step-limits (a .between .summed))
+  pub may-choose : (bits ≤ 44) × MayChoose n r q p u (s .z) sums
+  may-choose = (a .bits-are .1, rw (a .units-are) (may-choose-from step-limits (a .between .summed)))
 
   -- `new` has what `choose` left in the vector being chosen
-  module _ {new : List ℤ} (ec : new ≡ filled (digit-from r c p u (s .z) sums) chosen n) where
+  module _ {new : List ℤ} (ec : new ≡ filled (digit-from r q p u (s .z) sums) chosen n) where
     new-is : new ≡ chosen-digits s
     new-is =
-        ec ∙ filled-stepped (a .between .summed) r c p u (s .z) (a .between .free)
-        ∙ rw (a .radix-is, a .factor-is, a .bits-are .0, a .between .last) refl
+        ec ∙ filled-stepped (a .between .summed) r (state-factor s) p u (s .z) (a .units-are) (a .between .free)
+        ∙ rw (a .radix-is, a .bits-are .0, a .between .last) refl
 
     next-limits : KeepsLimits n (radix (s .header .code)) (state-factor s) p (state-unit s) (s .g) (residuals-left s) new
     next-limits =
@@ -136,12 +136,12 @@ module _ {s : State} {r c bits : ℕ} {before chosen sums : List ℤ} (a : MaySt
 
     -- and the step is made: `z` and `ds` have what `choose` and `store_digits` left, and `sums′` the rows'
     -- sums
-    pub stepped : {z ds sums′ : List ℤ} → z ≡ filled (residual-from r c p u (s .z) sums) (s .z) n → ds ≡ digits-stored n (s .k) (s .digits) new
+    pub stepped : {z ds sums′ : List ℤ} → z ≡ filled (residual-from r q p u (s .z) sums) (s .z) n → ds ≡ digits-stored n (s .k) (s .digits) new
         → Summed n (s .g) new sums′ → Stepped s before z ds new before sums′
     unfolding one-step
     stepped ez ed es =
         record {
-          residuals = ez ∙ filled-left (a .between .summed) r c p u (s .z) ∙ rw (a .radix-is, a .factor-is, a .bits-are .0, a .between .last) refl;
+          residuals = ez ∙ filled-left (a .between .summed) r (state-factor s) p u (s .z) (a .units-are) ∙ rw (a .radix-is, a .bits-are .0, a .between .last) refl;
           digits = ed ∙ rw new-is refl;
           newest = new-is;
           exchanged = refl;
@@ -182,14 +182,14 @@ module _ {s : State} {made j : ℕ} {ds z before chosen sums : List ℤ} (b : Ma
       }
 
   -- one more can be made of it
-  pub reached-may : (r c bits : ℕ) → r ≡ radix (s .header .code) → c ≡ state-factor s → (2 ^ bits ≡ state-unit s) × (bits ≤ 44)
-      → MayStepOnce now-is r c bits before chosen sums
-  reached-may r c bits e o f =
+  pub reached-may : (r q bits : ℕ) → r ≡ radix (s .header .code) → q ≡ radix (s .header .code) * state-factor s → (2 ^ bits ≡ state-unit s) × (bits ≤ 44)
+      → MayStepOnce now-is r q bits before chosen sums
+  reached-may r q bits e o f =
       rw whole
       (record {
         may = left;
         radix-is = e ∙ rw (steps-header s j) refl;
-        factor-is = o ∙ rw (steps-header s j, steps-scale s j) refl;
+        units-are = o ∙ rw (e, steps-header s j, steps-scale s j) refl;
         bits-are = (f .0 ∙ rw (steps-header s j, steps-scale s j) refl, f .1);
         between = h .between;
       })

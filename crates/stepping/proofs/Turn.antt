@@ -18,27 +18,26 @@ use Rattle.job.specs.Rules.{bound-over, bound-under}
 use Rattle.stepping.specs.Steps.{filled}
 use Rattle.stepping.specs.Inner.{shifted-by, digit-from, residual-from, MayChoose}
 use Rattle.stepping.proofs.Chosen.{unit-within}
-use Rattle.stepping.proofs.RowSum.{shifted-together}
 use Rattle.stepping.proofs.Stepped.{filled-past}
 
 -- A turn for row i: `v` are the residuals as the loop has them, those of the rows below i new and the
 -- others still z's.
-pub record Begun (z s : List ℤ) (n r c p f i : ℕ) (v : List ℤ) : Type 0 where
+pub record Begun (z s : List ℤ) (n r q p f i : ℕ) (v : List ℤ) : Type 0 where
   pub bits : f ≤ 44
-  pub may : MayChoose n r c p (2 ^ f) z s
+  pub may : MayChoose n r q p (2 ^ f) z s
   pub below : i < n
-  pub so-far : v ≡ filled (residual-from r c p (2 ^ f) z s) z i
+  pub so-far : v ≡ filled (residual-from r q p (2 ^ f) z s) z i
 
-module _ {z s : List ℤ} {n r c p f i : ℕ} {v : List ℤ} (h : Begun z s n r c p f i v) where
+module _ {z s : List ℤ} {n r q p f i : ℕ} {v : List ℤ} (h : Begun z s n r q p f i v) where
   -- row i's numbers
   abbrev W : ℤ
-  W = shifted-by r c z s i
+  W = shifted-by r q z s i
 
   abbrev D : ℤ
-  D = digit-from r c p (2 ^ f) z s i
+  D = digit-from r q p (2 ^ f) z s i
 
   abbrev R : ℤ
-  R = residual-from r c p (2 ^ f) z s i
+  R = residual-from r q p (2 ^ f) z s i
 
   -- and how large they are
   unit-bound : 2 ^ f ≤ 2 ^ 44
@@ -60,7 +59,7 @@ module _ {z s : List ℤ} {n r c p f i : ℕ} {v : List ℤ} (h : Begun z s n r 
   R-small = omega (arith, rule .left W W-bound, unit-bound)
 
   z-is : at v i ≡ at z i
-  z-is = rw (h .so-far) (filled-past (residual-from r c p (2 ^ f) z s) z i i (omega arith))
+  z-is = rw (h .so-far) (filled-past (residual-from r q p (2 ^ f) z s) z i i (omega arith))
 
   abbrev the-z : Machine (at v i)
   the-z = known (at v i) (at z i) (2 ^ 44) z-is (h .may .residuals i (h .below))
@@ -75,9 +74,6 @@ module _ {z s : List ℤ} {n r c p f i : ℕ} {v : List ℤ} (h : Begun z s n r 
   s-read = let a = the-s in machine-eq (search machs depth 9) tt refl
 
   -- what `shifted` asks
-  pub units-most : r * c ≤ 256
-  units-most = mul-le-mul (h .may .radix) (h .may .factor)
-
   pub z-within : Within (toZ w64 (ofZ w64 (at v i))) (2 ^ 44)
   z-within = let a = the-z in machine-within (search machs depth 9) tt
 
@@ -85,9 +81,9 @@ module _ {z s : List ℤ} {n r c p f i : ℕ} {v : List ℤ} (h : Begun z s n r 
   s-within = let a = the-s in machine-within (search machs depth 9) tt
 
   -- `w` is what `shifted` gave
-  module _ (w : ℤ) (ew : w ≡ pos r *ℤ toZ w64 (ofZ w64 (at v i)) +ℤ pos (r * c) *ℤ toZ w64 (ofZ w64 (at s i))) where
+  module _ (w : ℤ) (ew : w ≡ pos r *ℤ toZ w64 (ofZ w64 (at v i)) +ℤ pos q *ℤ toZ w64 (ofZ w64 (at s i))) where
     w-is : w ≡ W
-    w-is = ew ∙ rw (z-read, s-read) (shifted-together (at z i) (at s i) r c)
+    w-is = ew ∙ rw (z-read, s-read) refl
 
     abbrev the-w : Machine w
     the-w = known w W (2 ^ 49) w-is W-small
@@ -98,26 +94,26 @@ module _ {z s : List ℤ} {n r c p f i : ℕ} {v : List ℤ} (h : Begun z s n r 
     pub w-within : Within (toZ w64 (ofZ w64 w)) (2 ^ 49)
     w-within = let a = the-w in machine-within (search machs depth 9) tt
 
-    -- `q` is what `select` gave
-    module _ (q : ℤ) (eq : q ≡ select p (2 ^ f) (toZ w64 (ofZ w64 w))) where
-      q-is : q ≡ D
-      q-is = eq ∙ ap (λ x. select p (2 ^ f) x) w-read
+    -- `d` is what `select` gave
+    module _ (d : ℤ) (ed : d ≡ select p (2 ^ f) (toZ w64 (ofZ w64 w))) where
+      d-is : d ≡ D
+      d-is = ed ∙ ap (λ x. select p (2 ^ f) x) w-read
 
-      abbrev the-q : Machine q
-      the-q = known q D 15 q-is D-small
+      abbrev the-d : Machine d
+      the-d = known d D 15 d-is D-small
 
-      q-read : toZ w64 (ofZ w64 q) ≡ D
-      q-read = let a = the-q in machine-eq (search machs depth 9) tt refl
+      d-read : toZ w64 (ofZ w64 d) ≡ D
+      d-read = let a = the-d in machine-eq (search machs depth 9) tt refl
 
-      pub q-within : {B : ℕ} → 15 ≤ B → Within (toZ w64 (ofZ w64 q)) B
-      q-within k = record { abs = rw q-read (omega (arith, D-small)) }
+      pub d-within : {B : ℕ} → 15 ≤ B → Within (toZ w64 (ofZ w64 d)) B
+      d-within k = record { abs = rw d-read (omega (arith, D-small)) }
 
       -- what is stored: `x` is what `narrow` gave, `y` what `left` gave
-      pub digit-stored : (x : ℤ) → x ≡ toZ w64 (ofZ w64 q) → toZ w8 (ofZ w8 x) ≡ D
-      digit-stored x e = let a = known x D 15 (e ∙ q-read) D-small in machine-eq (search machs depth 9) tt refl
+      pub digit-stored : (x : ℤ) → x ≡ toZ w64 (ofZ w64 d) → toZ w8 (ofZ w8 x) ≡ D
+      digit-stored x e = let a = known x D 15 (e ∙ d-read) D-small in machine-eq (search machs depth 9) tt refl
 
-      y-is : (y : ℤ) → y ≡ toZ w64 (ofZ w64 w) -ℤ pos (2 ^ f) *ℤ toZ w64 (ofZ w64 q) → y ≡ R
-      y-is y e = e ∙ rw (w-read, q-read) refl
+      y-is : (y : ℤ) → y ≡ toZ w64 (ofZ w64 w) -ℤ pos (2 ^ f) *ℤ toZ w64 (ofZ w64 d) → y ≡ R
+      y-is y e = e ∙ rw (w-read, d-read) refl
 
-      pub residual-stored : (y : ℤ) → y ≡ toZ w64 (ofZ w64 w) -ℤ pos (2 ^ f) *ℤ toZ w64 (ofZ w64 q) → toZ w64 (ofZ w64 y) ≡ R
+      pub residual-stored : (y : ℤ) → y ≡ toZ w64 (ofZ w64 w) -ℤ pos (2 ^ f) *ℤ toZ w64 (ofZ w64 d) → toZ w64 (ofZ w64 y) ≡ R
       residual-stored y e = let a = known y R (2 ^ 44) (y-is y e) R-small in machine-eq (search machs depth 9) tt refl

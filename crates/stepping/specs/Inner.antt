@@ -106,17 +106,17 @@ pub record MayAdd (t : List ℤ) (place : ℕ) (s : List ℤ) : Type 0 where
 abbrev pub added : (t : List ℤ) (place : ℕ) (s : List ℤ) (i : ℕ) → ℤ
 added t place s i = at s i +ℤ at t (place + i)
 
--- ---- the choice of one step, from the residuals z and the rows' sums s, which are c times as many units
+-- ---- the choice of one step, from the residuals z and the rows' sums s, a unit of which is q units of w
 
 -- document 01's w of row i, its digit, and the residual that this leaves
-abbrev pub shifted-by : (r c : ℕ) (z s : List ℤ) (i : ℕ) → ℤ
-shifted-by r c z s i = pos r *ℤ (at z i +ℤ pos c *ℤ at s i)
+abbrev pub shifted-by : (r q : ℕ) (z s : List ℤ) (i : ℕ) → ℤ
+shifted-by r q z s i = pos r *ℤ at z i +ℤ pos q *ℤ at s i
 
-abbrev pub digit-from : (r c p u : ℕ) (z s : List ℤ) (i : ℕ) → ℤ
-digit-from r c p u z s i = select p u (shifted-by r c z s i)
+abbrev pub digit-from : (r q p u : ℕ) (z s : List ℤ) (i : ℕ) → ℤ
+digit-from r q p u z s i = select p u (shifted-by r q z s i)
 
-abbrev pub residual-from : (r c p u : ℕ) (z s : List ℤ) (i : ℕ) → ℤ
-residual-from r c p u z s i = shifted-by r c z s i -ℤ pos u *ℤ digit-from r c p u z s i
+abbrev pub residual-from : (r q p u : ℕ) (z s : List ℤ) (i : ℕ) → ℤ
+residual-from r q p u z s i = shifted-by r q z s i -ℤ pos u *ℤ digit-from r q p u z s i
 
 -- a vector of n rows in an array of 16: 0 past row n
 pub record Vector (n : ℕ) (v : List ℤ) : Type 0 where
@@ -124,14 +124,14 @@ pub record Vector (n : ℕ) (v : List ℤ) : Type 0 where
   pub past : (i : ℕ) → n ≤ i → at v i ≡ pos 0
 
 -- a digit may be chosen in every row: |w| is at most p units and the residual bound more
-pub record MayChoose (n r c p u : ℕ) (z s : List ℤ) : Type 0 where
+pub record MayChoose (n r q p u : ℕ) (z s : List ℤ) : Type 0 where
   pub order : n ≤ 16
   pub radix : r ≤ 16
-  pub factor : c ≤ 16
+  pub units : q ≤ 256
   pub largest : p ≤ 15
   pub residuals : (i : ℕ) → i < n → natAbs (at z i) ≤ 2 ^ 44
   pub sums : (i : ℕ) → i < n → natAbs (at s i) ≤ 2 ^ 48
-  pub bound : (i : ℕ) → i < n → bound-under * natAbs (shifted-by r c z s i) ≤ (bound-under * p + bound-over) * u
+  pub bound : (i : ℕ) → i < n → bound-under * natAbs (shifted-by r q z s i) ≤ (bound-under * p + bound-over) * u
 
 -- ---- a step
 
@@ -149,11 +149,11 @@ pub record Between (s : State) (before chosen sums : List ℤ) : Type 0 where
   pub free : Vector (s .header .n) chosen
   pub summed : Summed (s .header .n) (s .g) before sums
 
--- what a step asks: s has a step left, r is its radix, c is r^s, and its residuals have so many fraction bits
-pub record MayStepOnce (s : State) (r c bits : ℕ) (before chosen sums : List ℤ) : Type 0 where
+-- what a step asks: s has a step left, r is its radix, q is r r^s, and its residuals have so many fraction bits
+pub record MayStepOnce (s : State) (r q bits : ℕ) (before chosen sums : List ℤ) : Type 0 where
   pub may : MayStep s 1
   pub radix-is : r ≡ radix (s .header .code)
-  pub factor-is : c ≡ state-factor s
+  pub units-are : q ≡ r * state-factor s
   pub bits-are : (2 ^ bits ≡ state-unit s) × (bits ≤ 44)
   pub between : Between s before chosen sums
 

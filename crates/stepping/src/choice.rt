@@ -1,6 +1,6 @@
 // The choice of one step: a digit in each row, and the residual that it leaves. Residuals and w are in units
 // of 1 / 2^f, so that 2^f stands for 1; f is the fraction bits inside a state. A row's sum is in the unit of
-// the frame's numbers, of which one is c units here.
+// the frame's numbers, one of which is q units of w.
 ghost use mathlib.Core.Path.{_≡_};
 ghost use Prim.Native.Nat.{_+_, _*_, _/_, _^_, _<_, _≤_};
 ghost use lib.IntN.{pos, natAbs, _+ℤ_, _-ℤ_, _*ℤ_};
@@ -75,21 +75,20 @@ pub fn choose(
     new: &mut [i8; ROWS],
     n: usize,
     r: usize,
-    c: usize,
+    q: usize,
     f: usize,
     p: usize,
 )
-    requires { ⌜ (f ≤ 44) × MayChoose n r c p (2 ^ f) (now z) (now s) ⌝ }
-    ensures digits { λ _. ⌜ now (new .exit) ≡ filled (digit-from r c p (2 ^ f) (now (z .entry)) (now (s .entry))) (now (new .entry)) n ⌝ }
-    ensures residuals { λ _. ⌜ now (z .exit) ≡ filled (residual-from r c p (2 ^ f) (now (z .entry)) (now (s .entry))) (now (z .entry)) n ⌝ }
+    requires { ⌜ (f ≤ 44) × MayChoose n r q p (2 ^ f) (now z) (now s) ⌝ }
+    ensures digits { λ _. ⌜ now (new .exit) ≡ filled (digit-from r q p (2 ^ f) (now (z .entry)) (now (s .entry))) (now (new .entry)) n ⌝ }
+    ensures residuals { λ _. ⌜ now (z .exit) ≡ filled (residual-from r q p (2 ^ f) (now (z .entry)) (now (s .entry))) (now (z .entry)) n ⌝ }
 {
-    let units = r * c;
     let mut i: usize = 0;
     while i < n {
-        let w = shifted(z[i], s[i], r, units);
-        let q = select(w, f, p);
-        new[i] = integers::narrow(q);
-        z[i] = residual_after(w, q, f);
+        let w = shifted(z[i], s[i], r, q);
+        let d = select(w, f, p);
+        new[i] = integers::narrow(d);
+        z[i] = residual_after(w, d, f);
         i += 1;
     }
 }

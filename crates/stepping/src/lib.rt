@@ -67,7 +67,7 @@ fn step_by_rows<'a>(
     h: Header,
     scale: usize,
     r: usize,
-    c: usize,
+    q: usize,
     bits: usize,
     k: usize,
     g: &'a [i64; ENTRIES],
@@ -79,12 +79,12 @@ fn step_by_rows<'a>(
     z: &mut [i64; ROWS],
     digits: &mut [i8; DIGITS],
 ) -> Vectors
-    requires { ⌜ MayStepOnce (state-of true h scale k (now g) (now z) (now digits)) r c bits before chosen (now sums) × Starts (h .n) (now g) (now starts) × Ends (h .n) (now g) (now ends) × (length (now sums) ≡ 16) ⌝ }
+    requires { ⌜ MayStepOnce (state-of true h scale k (now g) (now z) (now digits)) r q bits before chosen (now sums) × Starts (h .n) (now g) (now starts) × Ends (h .n) (now g) (now ends) × (length (now sums) ≡ 16) ⌝ }
     ensures step { λ v. ⌜ Stepped (state-of true h scale k (now (g .entry)) (now (z .entry)) (now (digits .entry))) before (now (z .exit)) (now (digits .exit)) (v .before) (v .chosen) (now (sums .exit)) ⌝ }
     ensures size { λ _. ⌜ length (now (sums .exit)) ≡ 16 ⌝ }
 {
     let n = h.n;
-    choice::choose(sums, z, &mut chosen, n, r, c, bits, h.p);
+    choice::choose(sums, z, &mut chosen, n, r, q, bits, h.p);
     sums::row_sums(g, starts, ends, &chosen, n, sums);
     store_digits(digits, k, n, &chosen);
     Vectors {
@@ -109,7 +109,7 @@ fn run_by_rows(
 {
     let n = h.n;
     let r = job::radix(h.code);
-    let c = job::scale_factor(h, scale);
+    let q = job::sum_factor(h, scale);
     let bits = job::inner_bits(h, scale);
     let starts = sums::row_starts(g, n);
     let ends = sums::row_ends(g, n);
@@ -127,7 +127,7 @@ fn run_by_rows(
             h,
             scale,
             r,
-            c,
+            q,
             bits,
             k + j,
             g,
@@ -149,7 +149,7 @@ fn step_by_columns<'a>(
     h: Header,
     scale: usize,
     r: usize,
-    c: usize,
+    q: usize,
     bits: usize,
     k: usize,
     g: &'a [i64; ENTRIES],
@@ -160,11 +160,11 @@ fn step_by_columns<'a>(
     z: &mut [i64; ROWS],
     digits: &mut [i8; DIGITS],
 ) -> Vectors
-    requires { ⌜ MayStepOnce (state-of true h scale k (now g) (now z) (now digits)) r c bits before chosen (now sums) × Products (h .n) (now g) (now table) × (h .p ≡ 1) ⌝ }
+    requires { ⌜ MayStepOnce (state-of true h scale k (now g) (now z) (now digits)) r q bits before chosen (now sums) × Products (h .n) (now g) (now table) × (h .p ≡ 1) ⌝ }
     ensures { λ v. ⌜ Stepped (state-of true h scale k (now (g .entry)) (now (z .entry)) (now (digits .entry))) before (now (z .exit)) (now (digits .exit)) (v .before) (v .chosen) (now (sums .exit)) ⌝ }
 {
     let n = h.n;
-    choice::choose(sums, z, &mut chosen, n, r, c, bits, h.p);
+    choice::choose(sums, z, &mut chosen, n, r, q, bits, h.p);
     *sums = sums::column_sums(table, &chosen, n);
     store_digits(digits, k, n, &chosen);
     Vectors {
@@ -188,7 +188,7 @@ fn run_by_columns(
     ensures digits { λ _. ⌜ now (digits .exit) ≡ steps (state-of true h scale k (now (g .entry)) (now (z .entry)) (now (digits .entry))) made .digits ⌝ }
 {
     let n = h.n;
-    let c = job::scale_factor(h, scale);
+    let q = job::sum_factor(h, scale);
     let bits = job::inner_bits(h, scale);
     let table = sums::products(g, n);
     let mut v = Vectors {
@@ -204,7 +204,7 @@ fn run_by_columns(
             h,
             scale,
             2,
-            c,
+            q,
             bits,
             k + j,
             g,

@@ -13,14 +13,14 @@ use Rattle.stepping.proofs.run_by_columns.Statement.{statement}
 use Rattle.stepping.proofs.run_by_columns.Tie as tie
 
 abbrev Inv-loop : tie.InvT-loop
-Inv-loop h scale k made g z₀ digits₀ n c bits table v₀ sums₀ j₀ z digits v sums j =
+Inv-loop h scale k made g z₀ digits₀ n q bits table v₀ sums₀ j₀ z digits v sums j =
     (j ≤ made) × Reached (state-of true h scale k g z₀ digits₀) j digits z (v .before) (v .chosen) sums
 
 abbrev μ-loop : tie.MeasureT-loop
-μ-loop h scale k made g z₀ digits₀ n c bits table v₀ sums₀ j₀ z digits v sums j = made - j
+μ-loop h scale k made g z₀ digits₀ n q bits table v₀ sums₀ j₀ z digits v sums j = made - j
 
-scale-factor-requires : tie.Need-scale-factor-requires Inv-loop μ-loop
-scale-factor-requires c κs = let p = c .pre .0 .passes in (p .limits, p .scaled)
+sum-factor-requires : tie.Need-sum-factor-requires Inv-loop μ-loop
+sum-factor-requires c κs = let p = c .pre .0 .passes in (p .limits, p .scaled)
 
 inner-bits-requires : tie.Need-inner-bits-requires Inv-loop μ-loop
 inner-bits-requires c κs = let p = c .before .pre .0 .passes in (p .limits, p .scaled)
@@ -62,7 +62,7 @@ step-by-columns-requires c κs =
     let d = begun i in
     let p = start d .pre in (
       reached-may (p .0) (i .loop-test .taken) (i .before .loop .inv .1) _ _ _ (radix-two (p .0 .passes .limits) (p .1))
-          (d .before .before .before .before .scale-factor .ensures) (d .before .before .before .inner-bits .ensures),
+          (d .before .before .before .before .sum-factor .ensures) (d .before .before .before .inner-bits .ensures),
       d .before .before .products .ensures,
       p .1,
     )
@@ -93,7 +93,7 @@ run-by-columns-spec =
     (tie.spec
     Inv-loop
     μ-loop
-    scale-factor-requires
+    sum-factor-requires
     inner-bits-requires
     products-requires
     last-digits-requires

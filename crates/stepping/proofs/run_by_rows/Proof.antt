@@ -13,17 +13,17 @@ use Rattle.stepping.proofs.run_by_rows.Statement.{statement}
 use Rattle.stepping.proofs.run_by_rows.Tie as tie
 
 abbrev Inv-loop : tie.InvT-loop
-Inv-loop h scale k made g z₀ digits₀ n r c bits starts ends v₀ sums₀ j₀ z digits v sums j =
+Inv-loop h scale k made g z₀ digits₀ n r q bits starts ends v₀ sums₀ j₀ z digits v sums j =
     (j ≤ made) × (length sums ≡ 16) × Reached (state-of true h scale k g z₀ digits₀) j digits z (v .before) (v .chosen) sums
 
 abbrev μ-loop : tie.MeasureT-loop
-μ-loop h scale k made g z₀ digits₀ n r c bits starts ends v₀ sums₀ j₀ z digits v sums j = made - j
+μ-loop h scale k made g z₀ digits₀ n r q bits starts ends v₀ sums₀ j₀ z digits v sums j = made - j
 
 radix-requires : tie.Need-radix-requires Inv-loop μ-loop
 radix-requires c κs = c .pre .passes .limits .code-most
 
-scale-factor-requires : tie.Need-scale-factor-requires Inv-loop μ-loop
-scale-factor-requires c κs = let p = c .before .pre .passes in (p .limits, p .scaled)
+sum-factor-requires : tie.Need-sum-factor-requires Inv-loop μ-loop
+sum-factor-requires c κs = let p = c .before .pre .passes in (p .limits, p .scaled)
 
 inner-bits-requires : tie.Need-inner-bits-requires Inv-loop μ-loop
 inner-bits-requires c κs = let p = c .before .before .pre .passes in (p .limits, p .scaled)
@@ -69,7 +69,7 @@ step-by-rows-requires c κs =
     let d = begun i in
     let v = i .before .loop .inv in (
       reached-may (start d .pre) (i .loop-test .taken) (v .2) _ _ _ (d .before .before .before .before .before .before .radix .ensures)
-          (d .before .before .before .before .before .scale-factor .ensures) (d .before .before .before .before .inner-bits .ensures),
+          (d .before .before .before .before .before .sum-factor .ensures) (d .before .before .before .before .inner-bits .ensures),
       d .before .before .before .row-starts .ensures,
       d .before .before .row-ends .ensures,
       v .1,
@@ -103,7 +103,7 @@ run-by-rows-spec =
     Inv-loop
     μ-loop
     radix-requires
-    scale-factor-requires
+    sum-factor-requires
     inner-bits-requires
     row-starts-requires
     row-ends-requires

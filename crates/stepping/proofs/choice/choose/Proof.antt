@@ -2,26 +2,22 @@
 -- measure is what is left of the rows.
 use mathlib.Core.Path.{_≡_, sym}
 use Prim.Native.Nat.{_-_, _≤_, _^_}
-use native.Mathlib.Nat.{mul-le-mul}
 use native.Mathlib.Omega.{arith}
 use Rattle.stepping.specs.Steps.{filled}
 use Rattle.stepping.specs.Inner.{digit-from, residual-from}
 use Rattle.stepping.proofs.Stepped.{filled-zero, filled-next}
-use Rattle.stepping.proofs.Turn.{Begun, units-most, z-within, s-within, w-within, q-within, digit-stored, residual-stored}
+use Rattle.stepping.proofs.Turn.{Begun, z-within, s-within, w-within, d-within, digit-stored, residual-stored}
 use Rattle.stepping.proofs.choice.choose.Statement.{statement}
 use Rattle.stepping.proofs.choice.choose.Tie as tie
 
 abbrev Inv-loop : tie.InvT-loop
-Inv-loop s z₀ new₀ n r c f p units i₀ z new i =
+Inv-loop s z₀ new₀ n r q f p i₀ z new i =
     (i ≤ n)
-    × (z ≡ filled (residual-from r c p (2 ^ f) z₀ s) z₀ i)
-    × (new ≡ filled (digit-from r c p (2 ^ f) z₀ s) new₀ i)
+    × (z ≡ filled (residual-from r q p (2 ^ f) z₀ s) z₀ i)
+    × (new ≡ filled (digit-from r q p (2 ^ f) z₀ s) new₀ i)
 
 abbrev μ-loop : tie.MeasureT-loop
-μ-loop s z₀ new₀ n r c f p units i₀ z new i = n - i
-
-mul-units : tie.Need-mul-units Inv-loop μ-loop
-mul-units c = omega (arith, mul-le-mul (c .pre .1 .radix) (c .pre .1 .factor))
+μ-loop s z₀ new₀ n r q f p i₀ z new i = n - i
 
 loop-holds : tie.Need-loop-holds Inv-loop μ-loop
 loop-holds c = (omega arith, sym (filled-zero _ _), sym (filled-zero _ _))
@@ -39,13 +35,13 @@ element-copy-out-shifted-2 : tie.Need-element-copy-out-shifted-2 Inv-loop μ-loo
 element-copy-out-shifted-2 c = omega arith
 
 begun : (c : tie.In-loop Inv-loop μ-loop) → let s = c .before .before in
-    Begun (s .args .z .now) (s .args .s .now) (s .args .n) (s .args .r) (s .args .c) (s .args .p) (s .args .f) (c .before .loop .i) (c .before .loop .z)
+    Begun (s .args .z .now) (s .args .s .now) (s .args .n) (s .args .r) (s .args .q) (s .args .p) (s .args .f) (c .before .loop .i) (c .before .loop .z)
 begun c =
     let s = c .before .before in
     record { bits = s .pre .0; may = s .pre .1; below = c .loop-test .taken; so-far = c .before .loop .inv .1 }
 
 shifted-requires : tie.Need-shifted-requires Inv-loop μ-loop
-shifted-requires c κs = let h = begun (c .before .before) in (h .may .radix, units-most h, z-within h, s-within h)
+shifted-requires c κs = let h = begun (c .before .before) in (h .may .radix, h .may .units, z-within h, s-within h)
 
 select-requires : tie.Need-select-requires Inv-loop μ-loop
 select-requires c κs =
@@ -55,7 +51,7 @@ select-requires c κs =
 narrow-requires : tie.Need-narrow-requires Inv-loop μ-loop
 narrow-requires c κs =
     let h = begun (c .before .before .before .before) in
-    q-within h _ (c .before .shifted .ensures) _ (c .select .ensures) (omega arith)
+    d-within h _ (c .before .shifted .ensures) _ (c .select .ensures) (omega arith)
 
 element-set-from-new : tie.Need-element-set-from-new Inv-loop μ-loop
 element-set-from-new c = omega arith
@@ -64,10 +60,10 @@ residual-after-requires : tie.Need-residual-after-requires Inv-loop μ-loop
 residual-after-requires c κs =
     let h = begun (c .before .before .before .before .before) in
     let w = c .before .before .shifted .ensures in
-    (h .bits, w-within h _ w, q-within h _ w _ (c .before .select .ensures) (omega arith))
+    (h .bits, w-within h _ w, d-within h _ w _ (c .before .select .ensures) (omega arith))
 
-mul-t14 : tie.Need-mul-t14 Inv-loop μ-loop
-mul-t14 c = omega arith
+mul-t13 : tie.Need-mul-t13 Inv-loop μ-loop
+mul-t13 c = omega arith
 
 element-set-from-z : tie.Need-element-set-from-z Inv-loop μ-loop
 element-set-from-z c = omega arith
@@ -100,7 +96,6 @@ choose-spec =
     (tie.spec
     Inv-loop
     μ-loop
-    mul-units
     loop-holds
     mul-shifted
     element-copy-out-shifted
@@ -111,7 +106,7 @@ choose-spec =
     narrow-requires
     element-set-from-new
     residual-after-requires
-    mul-t14
+    mul-t13
     element-set-from-z
     add-i
     loop-less
