@@ -20,8 +20,8 @@ use Rattle.frame.specs.Theorems.{PassesLayout}
 use Rattle.frame.proofs.Valid.{numbers-counted, numbers-fitting, laid-is, accepted-frame}
 use Rattle.frame.proofs.Verdicts.{rowless, verdict-before, verdict-after, numbers-small}
 
--- the job j of the bytes s: the verdict on the frame, 1 to 8 and 15, and of an accepted frame its header and system,
--- with the numbers in the first words of v
+-- the job j of the bytes s: the verdict on the frame, 1 to 8 and 15, and of an accepted frame its header and
+-- system, with the numbers in the first words of v
 pub record JobRead (s : List ℕ) (j : Job) (v : List ℤ) : Type 0 where
   pub verdict : record { refusal = j .refusal; row = j .row } ≡ checks-verdict (frame-checks s) (header-of s) (frame-numbers s)
   pub numbers : frame-refusal s ≡ 0 → take (count (header-of s)) v ≡ frame-numbers s

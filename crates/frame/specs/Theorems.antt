@@ -58,7 +58,7 @@ pub record AcceptedFrame (s : List ℕ) : Type 0 where
 abbrev pub FrameAccepted : Type 0
 FrameAccepted = (s : List ℕ) → (frame-refusal s ≡ 0) ↔ AcceptedFrame s
 
--- The scale of an accepted frame's job is the smallest that every right-hand side fits, and within its limits.
+-- The scale of an accepted frame's job is the smallest that every right-hand side fits, and keeps its limits.
 pub record FrameScaled (h : Header) (v : List ℤ) : Type 0 where
   pub smallest : Smallest h (right-side-of h v) (job-scale h v)
   pub limits : ScaleLimits h (job-scale h v)

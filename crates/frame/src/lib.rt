@@ -121,7 +121,8 @@ pub fn unpack(s: &[u8], v: &mut [i64]) -> FrameRead
     }
 }
 
-// Refusals 8 and 15, from the first heavy row, 0 where there is none, and the scale. The row goes with 8 alone.
+// Refusals 8 and 15, from the first heavy row, 0 where there is none, and the scale. The row goes with 8
+// alone.
 fn verdict(heavy: usize, h: Header, scale: usize) -> Verdict
     requires { ⌜ Limits h × (scale ≤ 2) ⌝ }
     ensures { λ r. ⌜ r ≡ numbers-verdict heavy (scaled-steps-out-of-range h scale) ⌝ }
@@ -141,8 +142,9 @@ fn verdict(heavy: usize, h: Header, scale: usize) -> Verdict
     Verdict { refusal: 0, row: 0 }
 }
 
-// The job of a header and its numbers: its system and its scale, and refusals 8 and 15 of them. The right-hand
-// sides come first and the scale last: looked at right after they are stored, they would make it wait.
+// The job of a header and its numbers: its system and its scale, and refusals 8 and 15 of them. The
+// right-hand sides come first and the scale last: looked at right after they are stored, they would make it
+// wait.
 pub fn set_up(h: Header, v: &[i64]) -> Job
     requires { ⌜ Limits h × Numbers (count h) (now v) ⌝ }
     ensures { λ r. ⌜ SetUp h (now (v .entry)) r ⌝ }

@@ -1,6 +1,6 @@
 -- The rules that a job is held to, each said once: every condition, promise and theorem on steps, units and
--- residuals cites these. A job runs on its right-hand sides divided by r^s, exactly; document 02's s is called
--- the scale of the job here, and the crate `scale` says which s a job has.
+-- residuals cites these. A job runs on its right-hand sides divided by r^s, exactly; document 02's s is
+-- called the scale of the job here, and the crate `scale` says which s a job has.
 use mathlib.Core.Bool.{Bool, _||_}
 use Prim.Native.Nat.{ℕ, zero, suc, _+_, _*_, _^_, _≤_}
 use lib.Dec.{ltb}

@@ -159,8 +159,8 @@ fn scale_bits(h: Header, s: usize) -> usize
     s * (h.code + 1)
 }
 
-// r × r^s: how many units of document 01's w make one of a row's sum. Products, and no shift: the machine then
-// multiplies the sums, which takes it less time than a shift by a number that it does not know.
+// r × r^s: how many units of document 01's w make one of a row's sum. Products, and no shift: the machine
+// then multiplies the sums, which takes it less time than a shift by a number that it does not know.
 pub fn sum_factor(h: Header, s: usize) -> usize
     requires { ⌜ Limits h × ScaleLimits h s ⌝ }
     ensures { λ q. ⌜ q ≡ radix (h .code) * scale-factor h s ⌝ }

@@ -1,13 +1,14 @@
-// Calls on states that no load made: any numbers in any field, and jobs made from cases A and E, of the scales
-// 0 and 1, with random changes, so that some of them pass 24. After each call what its contract says is looked at again, word by word: a
-// refused advance makes 0 steps and gives back every word of the state; an accepted one counts the growth of
-// k, and keeps the header, the scale, the matrix, the digits of the steps before and of the steps still to come, and all
-// that stands past the n-th row; a refused readings keeps every word of the list, and an accepted one keeps
-// the words past the n-th. It prints how many calls of advance and of readings there were for each refusal
-// number, 0 for the accepted ones, and `ok`; at a difference it prints `wrong`.
+// Calls on states that no load made: any numbers in any field, and jobs made from cases A and E, of the
+// scales 0 and 1, with random changes, so that some of them pass 24. After each call what its contract
+// says is looked at again, word by word: a refused advance makes 0 steps and gives back every word of the
+// state; an accepted one counts the growth of k, and keeps the header, the scale, the matrix, the digits
+// of the steps before and of the steps still to come, and all that stands past the n-th row; a refused
+// readings keeps every word of the list, and an accepted one keeps the words past the n-th. It prints how
+// many calls of advance and of readings there were for each refusal number, 0 for the accepted ones, and
+// `ok`; at a difference it prints `wrong`.
 //
-// Each turn makes the steps of cases A and E as well, by load, advance and readings, by evaluate and by perform,
-// which are to give the same words.
+// Each turn makes the steps of cases A and E as well, by load, advance and readings, by evaluate and by
+// perform, which are to give the same words.
 use emethod::Advanced;
 use emethod::Evaluated;
 use emethod::Header;

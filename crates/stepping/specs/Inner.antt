@@ -149,7 +149,8 @@ pub record Between (s : State) (before chosen sums : List ℤ) : Type 0 where
   pub free : Vector (s .header .n) chosen
   pub summed : Summed (s .header .n) (s .g) before sums
 
--- what a step asks: s has a step left, r is its radix, q is r r^s, and its residuals have so many fraction bits
+-- what a step asks: s has a step left, r is its radix, q is r r^s, and its residuals have so many fraction
+-- bits
 pub record MayStepOnce (s : State) (r q bits : ℕ) (before chosen sums : List ℤ) : Type 0 where
   pub may : MayStep s 1
   pub radix-is : r ≡ radix (s .header .code)
