@@ -20,6 +20,7 @@ use sides::{Library, Plain};
 
 const USAGE: &str = "emethod-bench                   cases, comparison, measurements
 emethod-bench quick             the same in a few seconds
+emethod-bench measure           the measurements alone
 emethod-bench vectors FOLDER    frames.bin and traces.bin against their .txt";
 
 /// Every run makes the same random numbers.
@@ -31,6 +32,10 @@ fn main() -> ExitCode {
     let result = match arguments[..] {
         [] => run(120_000, &measure::FULL),
         ["quick"] => run(5_000, &measure::QUICK),
+        ["measure"] => {
+            measure::run(&measure::FULL, &mut Random::new(SEED));
+            Ok(())
+        }
         ["vectors", folder] => run_vectors(Path::new(folder)),
         _ => {
             eprintln!("{USAGE}");

@@ -6,6 +6,8 @@ use std::time::{Duration, Instant};
 use crate::inputs::{pack_frame, Light};
 use crate::plain::{calls, Fields};
 use crate::random::Random;
+#[cfg(before)]
+use crate::sides::Before;
 use crate::sides::{Library, Plain, Side};
 
 /// Different inputs of each sort: enough for branch predictors to learn none of them.
@@ -34,64 +36,59 @@ pub const QUICK: Effort = Effort {
     longest: Duration::from_millis(100),
 };
 
-/// Nanoseconds of one piece of work on each side, and plain time / library time.
+/// Nanoseconds of one piece of work on one side, and plain time / its time.
 struct Timing {
-    plain: f64,
-    library: f64,
+    nanoseconds: f64,
     ratio: f64,
     /// The ratios of the rounds, without the lowest and the highest quarter.
     middle: (f64, f64),
 }
 
-/// Runs both sides in many short rounds. In a round they take turns on the same inputs, and each goes first
-/// in every other round.
+/// How long one side takes on so many inputs, from a first one on.
+type Turn<'a> = Box<dyn FnMut(usize, usize) -> Duration + 'a>;
+
+fn turn<'a>(mut work: impl FnMut(usize) + 'a) -> Turn<'a> {
+    Box::new(move |first, inputs| {
+        let start = Instant::now();
+        for input in first..first + inputs {
+            work(input % INPUTS);
+        }
+        start.elapsed()
+    })
+}
+
+/// Runs all sides, the plain one first in the list, in many short rounds. In a round they take turns on the
+/// same inputs, and another one goes first in each round.
 ///
 /// A machine that does something else as well spoils single rounds; the medians leave those out.
-fn time_both(
-    effort: &Effort,
-    mut plain: impl FnMut(usize),
-    mut library: impl FnMut(usize),
-) -> Timing {
-    // How many inputs make a turn; finding out also makes both sides warm.
+fn time_sides(effort: &Effort, sides: &mut [Turn]) -> Vec<Timing> {
+    // How many inputs make a turn; finding out also makes all sides warm.
     let mut inputs = 1;
-    while turn(&mut plain, 0, inputs).max(turn(&mut library, 0, inputs)) < effort.turn {
+    while sides.iter_mut().all(|side| side(0, inputs) < effort.turn) {
         inputs *= 2;
     }
-    let (mut by_plain, mut by_library, mut ratios) = (Vec::new(), Vec::new(), Vec::new());
+    let mut times = vec![Vec::new(); sides.len()];
     let start = Instant::now();
     for round in 0..effort.rounds as usize {
-        let first = round * inputs;
-        let (a, b);
-        if round % 2 == 0 {
-            a = turn(&mut plain, first, inputs);
-            b = turn(&mut library, first, inputs);
-        } else {
-            b = turn(&mut library, first, inputs);
-            a = turn(&mut plain, first, inputs);
+        for place in 0..sides.len() {
+            let side = (round + place) % sides.len();
+            let taken = sides[side](round * inputs, inputs);
+            times[side].push(taken.as_nanos() as f64 / inputs as f64);
         }
-        let each = |time: Duration| time.as_nanos() as f64 / inputs as f64;
-        by_plain.push(each(a));
-        by_library.push(each(b));
-        ratios.push(each(a) / each(b));
         if start.elapsed() > effort.longest {
             break;
         }
     }
+    times.iter().map(|side| timing(&times[0], side)).collect()
+}
+
+fn timing(plain: &[f64], side: &[f64]) -> Timing {
+    let mut ratios: Vec<f64> = plain.iter().zip(side).map(|(a, b)| a / b).collect();
     Timing {
-        plain: quantile(&mut by_plain, 2),
-        library: quantile(&mut by_library, 2),
+        nanoseconds: quantile(&mut side.to_vec(), 2),
         ratio: quantile(&mut ratios, 2),
         middle: (quantile(&mut ratios, 1), quantile(&mut ratios, 3)),
     }
-}
-
-/// How long the work takes on so many inputs, one after another from a first one on.
-fn turn(work: &mut impl FnMut(usize), first: usize, inputs: usize) -> Duration {
-    let start = Instant::now();
-    for input in first..first + inputs {
-        work(input % INPUTS);
-    }
-    start.elapsed()
 }
 
 /// The value with so many quarters of the others below it.
@@ -133,43 +130,79 @@ fn sort(kind: usize, r: usize, n: usize, m: usize) -> Fields {
 
 // One piece of work each, on one of the inputs. What is lent stands ready before the clock starts.
 
-fn load<S: Side>(frames: &[Vec<u8>]) -> impl FnMut(usize) + '_ {
-    |input| {
+fn load<S: Side>(frames: &[Vec<u8>]) -> Turn<'_> {
+    turn(|input| {
         let frame = black_box(&frames[input]);
         black_box(S::check_frame(frame));
-    }
+    })
 }
 
-fn job<S: Side>(frames: &[Vec<u8>]) -> impl FnMut(usize) + '_ {
+fn job<S: Side>(frames: &[Vec<u8>]) -> Turn<'_> {
     let mut readings = [0; 16];
-    move |input| {
+    turn(move |input| {
         let frame = black_box(&frames[input]);
         black_box(S::evaluate(frame, u64::MAX, black_box(&mut readings)));
-    }
+    })
 }
 
-fn trace_write<S: Side>(traces: &[Vec<u8>]) -> impl FnMut(usize) + '_ {
+fn trace_write<S: Side>(traces: &[Vec<u8>]) -> Turn<'_> {
     let mut out = [0; 604];
-    move |input| {
+    turn(move |input| {
         let trace = black_box(&traces[input]);
         black_box(S::rewrite_trace(trace, TIMES - 1, black_box(&mut out)));
-    }
+    })
 }
 
-fn trace_read<S: Side>(traces: &[Vec<u8>]) -> impl FnMut(usize) + '_ {
+fn trace_read<S: Side>(traces: &[Vec<u8>]) -> Turn<'_> {
     let mut words = [0; 967];
-    move |input| {
+    turn(move |input| {
         let trace = black_box(&traces[input]);
         black_box(S::read_trace(trace, black_box(&mut words)));
-    }
+    })
 }
 
-fn trace_read_by_eights(traces: &[Vec<u8>]) -> impl FnMut(usize) + '_ {
+fn trace_read_by_eights(traces: &[Vec<u8>]) -> Turn<'_> {
     let mut words = [0; 967];
-    move |input| {
+    turn(move |input| {
         let trace = black_box(&traces[input]);
         let _ = black_box(calls::trace_words_by_eights(trace, black_box(&mut words)));
+    })
+}
+
+/// One piece of work on every side, the plain one first.
+macro_rules! sides {
+    ($work:ident, $inputs:expr) => {
+        [
+            $work::<Plain>($inputs),
+            $work::<Library>($inputs),
+            #[cfg(before)]
+            $work::<Before>($inputs),
+        ]
+    };
+}
+
+fn heading(what: &str) {
+    let plain = Plain::NAME;
+    print!("\n{what:<38} {:>8}", format!("{plain} ns"));
+    let names = [
+        Library::NAME,
+        #[cfg(before)]
+        Before::NAME,
+    ];
+    for name in names {
+        print!(" {:>14}   ratio  middle half", format!("{name} ns"));
     }
+    println!();
+}
+
+fn line(what: &str, timings: &[Timing]) {
+    print!("{what:<38} {:>8.0}", timings[0].nanoseconds);
+    for timing in &timings[1..] {
+        let (low, high) = timing.middle;
+        print!(" {:>14.0} {:>7.2} ", timing.nanoseconds, timing.ratio);
+        print!(" {low:.2} to {high:.2}");
+    }
+    println!();
 }
 
 /// Measures everything and prints the tables.
@@ -186,60 +219,37 @@ pub fn run(effort: &Effort, random: &mut Random) {
     ];
     let inputs = sorts.map(|(name, fields)| (name, frames(fields, 0, random)));
     let high = high_sorts.map(|(name, fields)| (name, frames(fields, 1, random)));
-    let heading = |what: &str| {
-        let (plain, library) = (Plain::NAME, Library::NAME);
-        println!(
-            "\n{what:<38} {:>10} {:>14}   ratio  middle half of the rounds",
-            format!("{plain} ns"),
-            format!("{library} ns"),
-        );
-    };
-    let line = |what: &str, timing: &Timing| {
-        println!(
-            "{what:<38} {:>10.0} {:>14.0} {:>7.2}  {:.2} to {:.2}",
-            timing.plain, timing.library, timing.ratio, timing.middle.0, timing.middle.1
-        );
-    };
+    let time = |what: &str, sides: &mut [Turn]| line(what, &time_sides(effort, sides));
 
-    println!("\nratio = plain time / library time: above 1 the library is faster");
+    println!("\nratio = plain time / that side's time: above 1 it is faster than plain");
     heading("what");
     for (name, frames) in &inputs {
-        let timing = time_both(effort, load::<Plain>(frames), load::<Library>(frames));
-        line(&format!("load, {name}"), &timing);
+        time(&format!("load, {name}"), &mut sides!(load, frames));
     }
     for (name, frames) in inputs.iter().chain(&high) {
-        let timing = time_both(effort, job::<Plain>(frames), job::<Library>(frames));
-        line(&format!("whole job, {name}"), &timing);
+        time(&format!("whole job, {name}"), &mut sides!(job, frames));
     }
     let traces = inputs.map(|(name, frames)| {
         let traces: Vec<Vec<u8>> = frames.iter().map(|frame| full_trace(frame)).collect();
         (name, traces)
     });
     for (name, traces) in &traces {
-        let mut timing = time_both(
-            effort,
-            trace_write::<Plain>(traces),
-            trace_write::<Library>(traces),
-        );
-        timing.plain /= TIMES as f64;
-        timing.library /= TIMES as f64;
-        line(&format!("trace write, {name}"), &timing);
+        let mut timings = time_sides(effort, &mut sides!(trace_write, traces));
+        for timing in &mut timings {
+            timing.nanoseconds /= TIMES as f64;
+        }
+        line(&format!("trace write, {name}"), &timings);
     }
     for (name, traces) in &traces {
-        let timing = time_both(
-            effort,
-            trace_read::<Plain>(traces),
-            trace_read::<Library>(traces),
+        time(
+            &format!("trace read, {name}"),
+            &mut sides!(trace_read, traces),
         );
-        line(&format!("trace read, {name}"), &timing);
     }
     for (name, traces) in &traces {
-        let timing = time_both(
-            effort,
-            trace_read_by_eights(traces),
-            trace_read::<Library>(traces),
-        );
-        line(&format!("by eights, {name}"), &timing);
+        let mut sides = sides!(trace_read, traces);
+        sides[0] = trace_read_by_eights(traces);
+        time(&format!("by eights, {name}"), &mut sides);
     }
 
     heading("growth of a whole job, system r 2");
@@ -247,8 +257,7 @@ pub fn run(effort: &Effort, random: &mut Random) {
     let with_m = [10, 20, 40, 60].map(|m| (16, m));
     for (n, m) in with_n.into_iter().chain(with_m) {
         let frames = frames(sort(2, 2, n, m), 0, random);
-        let timing = time_both(effort, job::<Plain>(&frames), job::<Library>(&frames));
-        line(&format!("n {n:>2}, m {m}"), &timing);
+        time(&format!("n {n:>2}, m {m}"), &mut sides!(job, &frames));
     }
 }
 

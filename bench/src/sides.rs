@@ -102,121 +102,150 @@ impl Side for Plain {
 /// The proved library.
 pub struct Library;
 
+/// The library as it was at another commit, where the build was told of its archives.
+#[cfg(before)]
+pub struct Before;
+
+/// A side by functions of archives: what stands before their names, and what the side is called.
 #[cfg(not(feature = "plain-only"))]
-mod linked {
-    use super::{Answer, Fields, Library, Side};
-
-    extern "C" {
-        fn em_check_frame(frame: *const u8, length: usize) -> u64;
-        fn em_evaluate(
-            frame: *const u8,
-            length: usize,
-            budget: u64,
-            readings: *mut i64,
-            room: usize,
-        ) -> u64;
-        fn em_write_frame(
-            kind: usize,
-            code: usize,
-            p: usize,
-            f: usize,
-            n: usize,
-            m: usize,
-            numbers: *const i64,
-            length: usize,
-            out: *mut u8,
-            room: usize,
-        ) -> u64;
-        fn em_write_trace(
-            frame: *const u8,
-            length: usize,
-            budget: u64,
-            out: *mut u8,
-            room: usize,
-        ) -> u64;
-        fn em_read_trace(trace: *const u8, length: usize, words: *mut i64, room: usize) -> u64;
-        fn bench_probe_load(frame: *const u8, length: usize, row: usize, column: usize) -> i64;
-        fn bench_rewrite_trace(
-            trace: *const u8,
-            length: usize,
-            more: u64,
-            out: *mut u8,
-            room: usize,
-        ) -> usize;
-    }
-
-    // Each call hands on the address and the length of a slice, so the memory is there.
-    impl Side for Library {
-        const NAME: &'static str = "library";
-
-        fn check_frame(frame: &[u8]) -> Answer {
-            Answer(unsafe { em_check_frame(frame.as_ptr(), frame.len()) })
-        }
-
-        fn evaluate(frame: &[u8], budget: u64, readings: &mut [i64]) -> Answer {
-            Answer(unsafe {
-                em_evaluate(
-                    frame.as_ptr(),
-                    frame.len(),
-                    budget,
-                    readings.as_mut_ptr(),
-                    readings.len(),
-                )
-            })
-        }
-
-        fn write_frame(fields: &Fields, numbers: &[i64], out: &mut [u8]) -> Answer {
-            Answer(unsafe {
-                em_write_frame(
-                    fields.kind,
-                    fields.code,
-                    fields.p,
-                    fields.f,
-                    fields.n,
-                    fields.m,
-                    numbers.as_ptr(),
-                    numbers.len(),
-                    out.as_mut_ptr(),
-                    out.len(),
-                )
-            })
-        }
-
-        fn write_trace(frame: &[u8], budget: u64, out: &mut [u8]) -> Answer {
-            Answer(unsafe {
-                em_write_trace(
-                    frame.as_ptr(),
-                    frame.len(),
-                    budget,
-                    out.as_mut_ptr(),
-                    out.len(),
-                )
-            })
-        }
-
-        fn read_trace(trace: &[u8], words: &mut [i64]) -> Answer {
-            Answer(unsafe {
-                em_read_trace(trace.as_ptr(), trace.len(), words.as_mut_ptr(), words.len())
-            })
-        }
-
-        fn probe_load(frame: &[u8], row: usize, column: usize) -> i64 {
-            unsafe { bench_probe_load(frame.as_ptr(), frame.len(), row, column) }
-        }
-
-        fn rewrite_trace(trace: &[u8], more: u64, out: &mut [u8]) -> usize {
-            unsafe {
-                bench_rewrite_trace(
-                    trace.as_ptr(),
-                    trace.len(),
-                    more,
-                    out.as_mut_ptr(),
-                    out.len(),
-                )
+macro_rules! linked {
+    ($side:ident, $prefix:literal, $name:literal) => {
+        const _: () = {
+            extern "C" {
+                #[link_name = concat!($prefix, "em_check_frame")]
+                fn em_check_frame(frame: *const u8, length: usize) -> u64;
+                #[link_name = concat!($prefix, "em_evaluate")]
+                fn em_evaluate(
+                    frame: *const u8,
+                    length: usize,
+                    budget: u64,
+                    readings: *mut i64,
+                    room: usize,
+                ) -> u64;
+                #[link_name = concat!($prefix, "em_write_frame")]
+                fn em_write_frame(
+                    kind: usize,
+                    code: usize,
+                    p: usize,
+                    f: usize,
+                    n: usize,
+                    m: usize,
+                    numbers: *const i64,
+                    length: usize,
+                    out: *mut u8,
+                    room: usize,
+                ) -> u64;
+                #[link_name = concat!($prefix, "em_write_trace")]
+                fn em_write_trace(
+                    frame: *const u8,
+                    length: usize,
+                    budget: u64,
+                    out: *mut u8,
+                    room: usize,
+                ) -> u64;
+                #[link_name = concat!($prefix, "em_read_trace")]
+                fn em_read_trace(
+                    trace: *const u8,
+                    length: usize,
+                    words: *mut i64,
+                    room: usize,
+                ) -> u64;
+                #[link_name = concat!($prefix, "bench_probe_load")]
+                fn bench_probe_load(
+                    frame: *const u8,
+                    length: usize,
+                    row: usize,
+                    column: usize,
+                ) -> i64;
+                #[link_name = concat!($prefix, "bench_rewrite_trace")]
+                fn bench_rewrite_trace(
+                    trace: *const u8,
+                    length: usize,
+                    more: u64,
+                    out: *mut u8,
+                    room: usize,
+                ) -> usize;
             }
-        }
-    }
+
+            // Each call hands on the address and the length of a slice, so the memory is there.
+            impl Side for $side {
+                const NAME: &'static str = $name;
+
+                fn check_frame(frame: &[u8]) -> Answer {
+                    Answer(unsafe { em_check_frame(frame.as_ptr(), frame.len()) })
+                }
+
+                fn evaluate(frame: &[u8], budget: u64, readings: &mut [i64]) -> Answer {
+                    Answer(unsafe {
+                        em_evaluate(
+                            frame.as_ptr(),
+                            frame.len(),
+                            budget,
+                            readings.as_mut_ptr(),
+                            readings.len(),
+                        )
+                    })
+                }
+
+                fn write_frame(fields: &Fields, numbers: &[i64], out: &mut [u8]) -> Answer {
+                    Answer(unsafe {
+                        em_write_frame(
+                            fields.kind,
+                            fields.code,
+                            fields.p,
+                            fields.f,
+                            fields.n,
+                            fields.m,
+                            numbers.as_ptr(),
+                            numbers.len(),
+                            out.as_mut_ptr(),
+                            out.len(),
+                        )
+                    })
+                }
+
+                fn write_trace(frame: &[u8], budget: u64, out: &mut [u8]) -> Answer {
+                    Answer(unsafe {
+                        em_write_trace(
+                            frame.as_ptr(),
+                            frame.len(),
+                            budget,
+                            out.as_mut_ptr(),
+                            out.len(),
+                        )
+                    })
+                }
+
+                fn read_trace(trace: &[u8], words: &mut [i64]) -> Answer {
+                    Answer(unsafe {
+                        em_read_trace(trace.as_ptr(), trace.len(), words.as_mut_ptr(), words.len())
+                    })
+                }
+
+                fn probe_load(frame: &[u8], row: usize, column: usize) -> i64 {
+                    unsafe { bench_probe_load(frame.as_ptr(), frame.len(), row, column) }
+                }
+
+                fn rewrite_trace(trace: &[u8], more: u64, out: &mut [u8]) -> usize {
+                    unsafe {
+                        bench_rewrite_trace(
+                            trace.as_ptr(),
+                            trace.len(),
+                            more,
+                            out.as_mut_ptr(),
+                            out.len(),
+                        )
+                    }
+                }
+            }
+        };
+    };
 }
+
+#[cfg(not(feature = "plain-only"))]
+linked!(Library, "", "library");
+#[cfg(before)]
+linked!(Before, "before_", "before");
 
 /// Without the archives the plain implementation stands in for the library. Its ratios then show what the
 /// clock alone makes of two equal sides.
