@@ -61,7 +61,8 @@ fn refused(refusal: usize, row: usize) -> Loaded
     }
 }
 
-// The state of the job that the frame s spells.
+// The state of the job that the frame s spells. The right-hand sides are made before the matrix: looked at
+// right after they are stored, they would make the search for the scale wait.
 pub fn load(s: &[u8]) -> Loaded
     ensures { λ r. ⌜ r ≡ loaded (now (s .entry)) ⌝ }
 {
@@ -72,19 +73,20 @@ pub fn load(s: &[u8]) -> Loaded
     }
     let h = a.header;
     let n = job::count(h);
-    let j = frame::set_up(h, &v[..n]);
-    if 0 < j.refusal {
-        return refused(j.refusal, j.row);
+    let numbers = &v[..n];
+    let z = system::right_sides(h, numbers);
+    let g = system::matrix(h, numbers);
+    let w = frame::weigh(&g, &z, h);
+    if 0 < w.refusal {
+        return refused(w.refusal, w.row);
     }
-    let g = j.g;
-    let z = j.z;
     Loaded {
         refusal: 0,
         row: 0,
         state: State {
             busy: true,
             header: h,
-            scale: j.scale,
+            scale: w.scale,
             k: 0,
             g,
             z,

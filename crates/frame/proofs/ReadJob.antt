@@ -1,5 +1,5 @@
 -- From bytes to a job, over the locals of the code: `a` is what `unpack` answered, `v` the array with the
--- numbers, `n` their count, `j` the job. Cited by the proofs of the frame reader and of load.
+-- numbers, `n` their count, `d` the verdict. Cited by the proofs of the frame reader and of load.
 use mathlib.Core.Path.{_≡_, refl, sym, ap, _∙_}
 use mathlib.Core.List.{List, _++_}
 use Prim.Native.Nat.{ℕ, _<_, _≤_}
@@ -13,19 +13,11 @@ use Rattle.job.specs.declared.Verdict.{Verdict}
 use Rattle.system.specs.Inner.{Numbers}
 use Rattle.header.specs.Header.{header-of}
 use Rattle.frame.specs.declared.FrameRead.{FrameRead}
-use Rattle.frame.specs.declared.Job.{Job}
 use Rattle.frame.specs.Frame.{frame-numbers, layout-checks, number-checks, frame-checks, frame-refusal, frame-row}
-use Rattle.frame.specs.Inner.{checks-verdict, layout-refusal, refused-answer, unpack-answer, unpacked, SetUp}
+use Rattle.frame.specs.Inner.{checks-verdict, layout-refusal, refused-answer, unpack-answer, unpacked}
 use Rattle.frame.specs.Theorems.{PassesLayout}
-use Rattle.frame.proofs.Valid.{numbers-counted, numbers-fitting, laid-is, accepted-frame}
+use Rattle.frame.proofs.Valid.{numbers-counted, numbers-fitting, laid-is}
 use Rattle.frame.proofs.Verdicts.{rowless, verdict-before, verdict-after, numbers-small}
-
--- the job j of the bytes s: the verdict on the frame, 1 to 8 and 15, and of an accepted frame its header and
--- system, with the numbers in the first words of v
-pub record JobRead (s : List ℕ) (j : Job) (v : List ℤ) : Type 0 where
-  pub verdict : record { refusal = j .refusal; row = j .row } ≡ checks-verdict (frame-checks s) (header-of s) (frame-numbers s)
-  pub numbers : frame-refusal s ≡ 0 → take (count (header-of s)) v ≡ frame-numbers s
-  pub made : frame-refusal s ≡ 0 → SetUp (header-of s) (frame-numbers s) j
 
 -- ---- the verdict on a frame: refused by 1 to 7, or else as 8 and 15 say
 
@@ -96,7 +88,7 @@ module _ (s : List ℕ) (z : List ℤ) {a : FrameRead} {v : List ℤ} (u : (a �
 
 -- and then the numbers are a part of v, from which the system can be set up
 module _ {s : List ℕ} {a : FrameRead} {v : List ℤ} {n : ℕ} (u : Unpacked s a v n) where
-  header-same : a .header ≡ header-of s
+  pub header-same : a .header ≡ header-of s
   header-same = ap (λ (a : FrameRead). a .header) (u .answer)
 
   pub part-long : n ≡ length (take n v)
@@ -111,42 +103,7 @@ module _ {s : List ℕ} {a : FrameRead} {v : List ℤ} {n : ℕ} (u : Unpacked s
       let m : Numbers (count (header-of s)) (frame-numbers s) = numbers-small l (numbers-counted s) (numbers-fitting s) in
       (rw (← header-same) at l, rw (u .numbers, header-same) m)
 
-  -- and the job of the numbers is the frame's
-  pub job-made : {j : Job} → SetUp (a .header) (take n v) j → JobRead s j v
-  job-made {j} m =
-      let o : SetUp (header-of s) (frame-numbers s) j = rw (header-same, u .numbers) at m in
-      record {
-        verdict = o .verdict ∙ sym (rows-verdict s (u .accepted));
-        numbers = λ y. rw (u .counted) at (u .numbers);
-        made = λ y. o;
-      }
-
--- ---- after `set_up`
-
-module _ {s : List ℕ} {j : Job} {v : List ℤ} (k : JobRead s j v) where
-  pub job-refusal : j .refusal ≡ frame-refusal s
-  job-refusal = verdict-refusal s (k .verdict)
-
-  module _ (y : j .refusal ≤ 0) where
-    job-accepted : frame-refusal s ≡ 0
-    job-accepted = omega (arith, job-refusal)
-
-    pub job-system : SetUp (header-of s) (frame-numbers s) j
-    job-system = k .made job-accepted
-
-    pub job-limits : Limits (j .header)
-    job-limits = rw (job-system .header) (accepted-frame s .0 job-accepted .layout .limits)
-
-    -- n is the count of the numbers
-    module _ {n : ℕ} (e : n ≡ count (j .header)) where
-      pub job-counted : n ≡ count (header-of s)
-      job-counted = e ∙ ap count (job-system .header)
-
-      pub job-numbers : take n v ≡ frame-numbers s
-      job-numbers = rw job-counted (k .numbers job-accepted)
-
-      pub job-long : n ≡ length (take n v)
-      job-long = job-counted ∙ sym (numbers-counted s) ∙ ap length (sym job-numbers)
-
-      pub job-within : n ≤ length v
-      job-within = omega (arith, job-long, length-take n v)
+  -- and the verdict on the system is that on the frame
+  pub part-verdict : {d : Verdict} → d ≡ checks-verdict (number-checks (a .header) (take n v)) (a .header) (take n v)
+      → d ≡ checks-verdict (frame-checks s) (header-of s) (frame-numbers s)
+  part-verdict e = (rw (header-same, u .numbers) at e) ∙ sym (rows-verdict s (u .accepted))

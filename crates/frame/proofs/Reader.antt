@@ -12,12 +12,11 @@ use lib.Seq.{paste-suc}
 use Rattle.job.specs.Header.{count}
 use Rattle.job.specs.declared.Verdict.{Verdict}
 use Rattle.frame.specs.declared.FrameRead.{FrameRead}
-use Rattle.frame.specs.declared.Job.{Job}
 use Rattle.header.specs.Header.{header-of}
-use Rattle.frame.specs.Frame.{frame-numbers, frame-checks, frame-row, number-list-too-short, frame-reader-checks, frame-reader-refusal, frame-reader-answer, frame-reader-list}
+use Rattle.frame.specs.Frame.{frame-numbers, number-checks, frame-checks, frame-row, number-list-too-short, frame-reader-checks, frame-reader-refusal, frame-reader-answer, frame-reader-list}
 use Rattle.frame.specs.Inner.{checks-verdict, layout-refusal, refused-answer, unpack-answer, unpacked}
 use Rattle.frame.proofs.Verdicts.{verdict-first, verdict-after}
-use Rattle.frame.proofs.ReadJob.{JobRead, layout-verdict, unpack-refusal, unpack-refused, job-counted, job-numbers, job-long}
+use Rattle.frame.proofs.ReadJob.{Unpacked, layout-verdict, unpack-refusal, unpack-refused, part-long, part-verdict}
 
 -- ---- a list copied to the front of another
 
@@ -65,21 +64,22 @@ layout-decides s z out u y =
     let l : 0 < layout-refusal s = rw (unpack-refusal s z u) at y in
     frame-decides s out (layout-verdict s l) (unpack-refused s z u y) l
 
--- ---- after `set_up`
+-- ---- after `system_verdict`
 
-module _ {s : List ℕ} {j : Job} {v : List ℤ} (k : JobRead s j v) (out : List ℤ) where
-  pub frame-refuses : {r : FrameRead} → r ≡ refused-answer (j .refusal) (j .row) → 0 < j .refusal
+module _ {s : List ℕ} {a : FrameRead} {v : List ℤ} {n : ℕ} (u : Unpacked s a v n) (out : List ℤ) {d : Verdict}
+    (k : d ≡ checks-verdict (number-checks (a .header) (take n v)) (a .header) (take n v)) where
+  pub frame-refuses : {r : FrameRead} → r ≡ refused-answer (d .refusal) (d .row) → 0 < d .refusal
       → (r ≡ frame-reader-answer s (length out)) × (out ≡ frame-reader-list s out)
-  frame-refuses f y = frame-decides s out (k .verdict) f y
+  frame-refuses f y = frame-decides s out (part-verdict u k) f y
 
   -- the list has n words or more, or not
-  module _ (y : j .refusal ≤ 0) {n : ℕ} (e : n ≡ count (j .header)) where
+  module _ (y : d .refusal ≤ 0) where
     pub list-decides : {r : FrameRead} → r ≡ refused-answer 23 0 → length out < n
         → (r ≡ frame-reader-answer s (length out)) × (out ≡ frame-reader-list s out)
     unfolding checks-verdict
     list-decides f l =
         answer-refused s out {d = record { refusal = 23; row = 0 }}
-        (rw (lt-ltb (length out) (count (header-of s)) (rw (job-counted k y e) at l)) at (sym (past-frame s out (k .verdict) y)))
+        (rw (lt-ltb (length out) (count (header-of s)) (rw (u .counted) at l)) at (sym (past-frame s out (part-verdict u k) y)))
         f (omega arith)
 
     pub none-decides : {r : FrameRead} {p : List ℤ} → r ≡ record { refusal = 0; row = 0; header = header-of s } → p ≡ take n v ++ drop (length (take n v)) out → n ≤ length out
@@ -87,6 +87,6 @@ module _ {s : List ℕ} {j : Job} {v : List ℤ} (k : JobRead s j v) (out : List
     unfolding checks-verdict
     none-decides o f l =
         answer-taken s out {d = record { refusal = 0; row = 0 }}
-        (rw (le-ltb (length out) (count (header-of s)) (rw (job-counted k y e) at l)) at (sym (past-frame s out (k .verdict) y)))
+        (rw (le-ltb (length out) (count (header-of s)) (rw (u .counted) at l)) at (sym (past-frame s out (part-verdict u k) y)))
         o
-        (f ∙ ap₂ (λ (w : List ℤ) (m : ℕ). w ++ drop m out) (job-numbers k y e) (sym (job-long k y e) ∙ job-counted k y e)) refl
+        (f ∙ ap₂ (λ (w : List ℤ) (m : ℕ). w ++ drop m out) (u .numbers) (sym (part-long u) ∙ u .counted)) refl

@@ -27,7 +27,8 @@ use Rattle.job.specs.declared.Verdict.{Verdict}
 use Rattle.system.specs.Inner.{Numbers}
 use Rattle.system.proofs.Searches.{heavy-flat}
 use Rattle.frame.specs.Frame.{number-checks, frame-row}
-use Rattle.frame.specs.Inner.{checks-verdict, numbers-verdict}
+use Rattle.frame.specs.Inner.{checks-verdict, numbers-verdict, weighed}
+use Rattle.frame.specs.declared.Weighed.{Weighed}
 
 -- none of the numbers is 8, so no row goes with them
 unfoldable pub rowless : List Check → Bool
@@ -78,19 +79,29 @@ of-steps a b h t = rw (le-ltb 0 a h, t)
 pub of-none : (a : ℕ) (b : Bool) → a ≤ 0 → b ≡ false → record { refusal = 0; row = 0 } ≡ numbers-verdict a b
 of-none a b h t = rw (le-ltb 0 a h, t)
 
+pub weigh-finds : (h : Header) (g z : List ℤ) {a s : ℕ} {d : Verdict} → a ≡ heavy-row h (entry g) → s ≡ scale h (at z)
+    → d ≡ numbers-verdict a (scaled-steps-out-of-range h s) → record { refusal = d .refusal; row = d .row; scale = s } ≡ weighed h g z
+unfolding weighed
+weigh-finds h g z k m n = rw (n, k, m) refl
+
 -- the arrays of a job's system, from which its heavy row and its scale are found
 module _ (h : Header) (v : List ℤ) {g z : List ℤ} (l : h .n ≤ 16) (e : g ≡ flat-matrix (h .n) (matrix-of h v)) (f : z ≡ flat-vector (h .n) (right-side-of h v)) where
-  pub scale-found : {s : ℕ} → s ≡ scale h (at z) → s ≡ job-scale h v
-  scale-found k = k ∙ rw f (scale-flat h (right-side-of h v) l)
+  scale-found : scale h (at z) ≡ job-scale h v
+  scale-found = rw f (scale-flat h (right-side-of h v) l)
 
-  heavy-found : {a : ℕ} → a ≡ heavy-row h (entry g) → a ≡ heavy-row h (matrix-of h v)
-  heavy-found k = k ∙ rw e (heavy-flat h (matrix-of h v) l)
+  heavy-found : heavy-row h (entry g) ≡ heavy-row h (matrix-of h v)
+  heavy-found = rw e (heavy-flat h (matrix-of h v) l)
 
-  pub verdict-found : {a s : ℕ} {d : Verdict} → a ≡ heavy-row h (entry g) → s ≡ scale h (at z)
-      → d ≡ numbers-verdict a (scaled-steps-out-of-range h s) → d ≡ checks-verdict (number-checks h v) h v
-  unfolding checks-verdict
-  verdict-found {a} {s} k m n =
-      n ∙ ap₂ (λ (a s : ℕ). numbers-verdict a (scaled-steps-out-of-range h s)) (heavy-found k) (scale-found m)
+  module _ {w : Weighed} (k : w ≡ weighed h g z) where
+    pub weighed-scale : w .scale ≡ job-scale h v
+    unfolding weighed
+    weighed-scale = ap (λ (w : Weighed). w .scale) k ∙ scale-found
+
+    pub weighed-verdict : record { refusal = w .refusal; row = w .row } ≡ checks-verdict (number-checks h v) h v
+    unfolding weighed checks-verdict
+    weighed-verdict =
+        ap (λ (w : Weighed). record { refusal = w .refusal; row = w .row }) k
+        ∙ ap₂ (λ (a s : ℕ). numbers-verdict a (scaled-steps-out-of-range h s)) heavy-found scale-found
 
 -- numbers that fit are at most 2, and small enough to set the system up from
 abs-mag : (z : ℤ) → natAbs z ≤ mag z + 1

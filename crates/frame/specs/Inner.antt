@@ -1,13 +1,13 @@
 -- What the contracts of inner functions cite; a reader of the promises can skip it.
-use mathlib.Core.{Path._≡_, Bool.Bool, Bool.cond, List.List, List.[], List._∷_, List._++_}
+use mathlib.Core.{Bool.Bool, Bool.cond, List.List, List.[], List._∷_, List._++_}
 use Prim.Native.Nat.{ℕ}
 use lib.{Dec.ltb, Dec.eqb, IntN.ℤ, ListN.drop}
-use Rattle.integers.specs.Flat.{flat-vector, flat-matrix}
-use Rattle.job.specs.{Header.count, Header.zero-header, Refusal.Check, Refusal.first-refusal, declared.Header.Header, declared.Verdict.Verdict}
-use Rattle.system.specs.System.{matrix-of, right-side-of}
-use Rattle.scale.specs.Scale.{job-scale}
+use Rattle.integers.specs.Flat.{at, entry}
+use Rattle.job.specs.{Header.count, Header.zero-header, Refusal.Check, Refusal.first-refusal, Rules.scaled-steps-out-of-range, declared.Header.Header, declared.Verdict.Verdict}
+use Rattle.system.specs.Rows.{heavy-row}
+use Rattle.scale.specs.Scale.{scale}
 use Rattle.header.specs.Header.{header-of}
-use Rattle.frame.specs.{declared.FrameRead.FrameRead, declared.Job.Job, Frame.frame-numbers, Frame.layout-checks, Frame.number-checks, Frame.frame-row}
+use Rattle.frame.specs.{declared.FrameRead.FrameRead, declared.Weighed.Weighed, Frame.frame-numbers, Frame.layout-checks, Frame.frame-row}
 
 -- the first refusal of the checks, of a job with the header h and the numbers v, and its row
 unfoldable pub checks-verdict : List Check → Header → List ℤ → Verdict
@@ -39,10 +39,9 @@ unpack-answer s =
 unfoldable pub unpacked : List ℕ → List ℤ → List ℤ
 unpacked s v = cond (eqb (layout-refusal s) 0) (frame-numbers s ++ drop (count (header-of s)) v) v
 
--- what `set_up` makes of a header and its numbers: the scale and the system, with the verdict on them
-pub record SetUp (h : Header) (v : List ℤ) (j : Job) : Type 0 where
-  pub verdict : record { refusal = j .refusal; row = j .row } ≡ checks-verdict (number-checks h v) h v
-  pub header : j .header ≡ h
-  pub scale : j .scale ≡ job-scale h v
-  pub matrix : j .g ≡ flat-matrix (h .n) (matrix-of h v)
-  pub right-sides : j .z ≡ flat-vector (h .n) (right-side-of h v)
+-- what `weigh` finds of the matrix g and the right-hand sides z: the verdict of 8 and 15, and the scale
+unfoldable pub weighed : Header → (g z : List ℤ) → Weighed
+weighed h g z =
+    let s = scale h (at z) in
+    let d = numbers-verdict (heavy-row h (entry g)) (scaled-steps-out-of-range h s) in
+    record { refusal = d .refusal; row = d .row; scale = s }

@@ -10,7 +10,8 @@
 // the frame keep their values. What follows from the contracts, the round trips among it, is in
 // specs/Theorems.antt.
 //
-// `unpack` and then `set_up` make a job of bytes: the frame reader and load both begin with them.
+// `unpack` makes a header and numbers of bytes, and `weigh` looks at the system that these set up: the frame
+// reader and load both begin with them.
 ghost use mathlib.Core.List.{_++_};
 ghost use mathlib.Core.Path.{_≡_};
 ghost use Prim.Native.Nat.{_<_, _≤_};
@@ -18,14 +19,17 @@ ghost use lib.ListN.{length, drop};
 ghost use Rattle.bitfields.specs.Layout.{write};
 ghost use Rattle.job.specs.Header.{count, Limits};
 ghost use Rattle.system.specs.Inner.{Numbers};
-ghost use Rattle.frame.specs.Frame.{frame-fields, frame-bits, frame-length, frame-reader-answer, frame-reader-list, all-fit, sent-checks, frame-writer-checks, frame-writer-answer, frame-writer-buffer};
+ghost use Rattle.scale.specs.Inner.{SmallSides};
+ghost use Rattle.frame.specs.Frame.{frame-fields, frame-bits, frame-length, frame-reader-answer, frame-reader-list, all-fit, number-checks, sent-checks, frame-writer-checks, frame-writer-answer, frame-writer-buffer};
 ghost use Rattle.job.specs.Kind.{most-numbers};
 ghost use Rattle.job.specs.Rules.{scaled-steps-out-of-range};
-ghost use Rattle.frame.specs.Inner.{checks-verdict, numbers-verdict, layout-refusal, refused-answer, unpack-answer, unpacked, SetUp};
+ghost use Rattle.frame.specs.Inner.{checks-verdict, numbers-verdict, layout-refusal, refused-answer, unpack-answer, unpacked, weighed};
 ghost use Rattle.frame.specs.Theorems.{ValidJob};
 use job::Header;
 use job::NUMBERS;
+use job::ROWS;
 use job::Verdict;
+use system::ENTRIES;
 
 // What the frame reader answers: a refusal number, 0 where there is none, the row given with it, and the
 // header's fields.
@@ -35,15 +39,12 @@ pub struct FrameRead {
     pub header: Header,
 }
 
-// A job that was set up: the refusal number of its system, 0 where there is none, the row given with it, the
-// header, the scale, the matrix and the right-hand sides.
-pub struct Job {
+// What is found of a job's system: the refusal number, 0 where there is none, the row given with it, and the
+// scale.
+pub struct Weighed {
     pub refusal: usize,
     pub row: usize,
-    pub header: Header,
     pub scale: usize,
-    pub g: [i64; 256],
-    pub z: [i64; 16],
 }
 
 // What the frame writer answers: a refusal number, 0 where there is none, the row given with it, and the
@@ -142,25 +143,32 @@ fn verdict(heavy: usize, h: Header, scale: usize) -> Verdict
     Verdict { refusal: 0, row: 0 }
 }
 
-// The job of a header and its numbers: its system and its scale, and refusals 8 and 15 of them. The
-// right-hand sides come first and the scale last: looked at right after they are stored, they would make it
-// wait.
-pub fn set_up(h: Header, v: &[i64]) -> Job
+// Refusals 8 and 15 of a job's system, the matrix g and the right-hand sides z, and its scale.
+pub fn weigh<'a>(g: &'a [i64; ENTRIES], z: &'a [i64; ROWS], h: Header) -> Weighed
+    requires { ⌜ Limits h × SmallSides (h .n) (now z) ⌝ }
+    ensures { λ r. ⌜ r ≡ weighed h (now (g .entry)) (now (z .entry)) ⌝ }
+{
+    let heavy = system::heavy_row(g, h);
+    let scale = scale::scale(z, h);
+    let d = verdict(heavy, h, scale);
+    Weighed {
+        refusal: d.refusal,
+        row: d.row,
+        scale,
+    }
+}
+
+// Refusals 8 and 15 of a header and its numbers.
+fn system_verdict(h: Header, v: &[i64]) -> Verdict
     requires { ⌜ Limits h × Numbers (count h) (now v) ⌝ }
-    ensures { λ r. ⌜ SetUp h (now (v .entry)) r ⌝ }
+    ensures { λ r. ⌜ r ≡ checks-verdict (number-checks h (now (v .entry))) h (now (v .entry)) ⌝ }
 {
     let z = system::right_sides(h, v);
     let g = system::matrix(h, v);
-    let heavy = system::heavy_row(&g, h);
-    let scale = scale::scale(&z, h);
-    let d = verdict(heavy, h, scale);
-    Job {
-        refusal: d.refusal,
-        row: d.row,
-        header: h,
-        scale,
-        g,
-        z,
+    let w = weigh(&g, &z, h);
+    Verdict {
+        refusal: w.refusal,
+        row: w.row,
     }
 }
 
@@ -187,9 +195,9 @@ pub fn read_frame(s: &[u8], out: &mut [i64]) -> FrameRead
     }
     let h = a.header;
     let n = job::count(h);
-    let j = set_up(h, &v[..n]);
-    if 0 < j.refusal {
-        return refused(j.refusal, j.row);
+    let d = system_verdict(h, &v[..n]);
+    if 0 < d.refusal {
+        return refused(d.refusal, d.row);
     }
     let room = out.len();
     if room < n {
@@ -231,11 +239,7 @@ fn numbers_verdict(h: Header, v: &[i64]) -> Verdict
             row: 0,
         };
     }
-    let j = set_up(h, v);
-    Verdict {
-        refusal: j.refusal,
-        row: j.row,
-    }
+    system_verdict(h, v)
 }
 
 // Every refusal of the frame writer, which is lent `room` bytes.

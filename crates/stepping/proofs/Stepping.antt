@@ -137,14 +137,13 @@ module _ {s : State} {r q bits : ℕ} {before chosen sums : List ℤ} (a : MaySt
     -- and the step is made: `z` and `ds` have what `choose` and `store_digits` left, and `sums′` the rows'
     -- sums
     pub stepped : {z ds sums′ : List ℤ} → z ≡ filled (residual-from r q p u (s .z) sums) (s .z) n → ds ≡ digits-stored n (s .k) (s .digits) new
-        → Summed n (s .g) new sums′ → Stepped s before z ds new before sums′
+        → Summed n (s .g) new sums′ → Stepped s z ds new sums′
     unfolding one-step
     stepped ez ed es =
         record {
           residuals = ez ∙ filled-left (a .between .summed) r (state-factor s) p u (s .z) (a .units-are) ∙ rw (a .radix-is, a .bits-are .0, a .between .last) refl;
           digits = ed ∙ rw new-is refl;
           newest = new-is;
-          exchanged = refl;
           summed = es;
         }
 
@@ -203,18 +202,19 @@ module _ {s : State} {made j : ℕ} {ds z before chosen sums : List ℤ} (b : Ma
       (stepped-digit-past (S .header .n) (radix (S .header .code)) (state-factor S) (S .header .p) (state-unit S) (S .g) (S .z) (last-digits S))
       (omega (arith, left .room, steps-have-room left))
 
-  pub reached-next : {ds′ z′ before′ chosen′ sums′ : List ℤ} → Stepped now-is before z′ ds′ before′ chosen′ sums′ → Reached s (j + 1) ds′ z′ before′ chosen′ sums′
+  -- after it the vector chosen is the step before, and that of the step before is free
+  pub reached-next : {ds′ z′ chosen′ sums′ : List ℤ} → Stepped now-is z′ ds′ chosen′ sums′ → Reached s (j + 1) ds′ z′ chosen′ before sums′
   unfolding steps one-step
-  reached-next {ds′} {z′} {before′} {chosen′} {sums′} t = rw add-one (turn (rw whole at t))
+  reached-next {ds′} {z′} {chosen′} {sums′} t = rw add-one (turn (rw whole at t))
     where
-      turn : Stepped S before z′ ds′ before′ chosen′ sums′ → Reached s (suc j) ds′ z′ before′ chosen′ sums′
+      turn : Stepped S z′ ds′ chosen′ sums′ → Reached s (suc j) ds′ z′ chosen′ before sums′
       turn q =
           record {
             digits = q .digits;
             residuals = q .residuals;
             between = record {
               last = q .newest ∙ sym copied;
-              free = rw (q .exchanged, h .between .last) (vector-flat (S .header .n) (digits-of (S .digits) (S .k)));
+              free = rw (h .between .last) (vector-flat (S .header .n) (digits-of (S .digits) (S .k)));
               summed = q .summed;
             };
           }

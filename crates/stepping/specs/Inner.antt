@@ -158,11 +158,10 @@ pub record MayStepOnce (s : State) (r q bits : ℕ) (before chosen sums : List �
   pub bits-are : (2 ^ bits ≡ state-unit s) × (bits ≤ 44)
   pub between : Between s before chosen sums
 
--- what it leaves: the residuals z and the digits ds of the state a step further, the two vectors exchanged,
--- and the rows' sums with the digits just chosen
-pub record Stepped (s : State) (before z ds before′ chosen′ sums′ : List ℤ) : Type 0 where
+-- what it leaves: the residuals z and the digits ds of the state a step further, the vector chosen, and the
+-- rows' sums with it
+pub record Stepped (s : State) (z ds chosen sums : List ℤ) : Type 0 where
   pub residuals : z ≡ one-step s .z
   pub digits : ds ≡ one-step s .digits
-  pub newest : before′ ≡ chosen-digits s
-  pub exchanged : chosen′ ≡ before
-  pub summed : Summed (s .header .n) (s .g) before′ sums′
+  pub newest : chosen ≡ chosen-digits s
+  pub summed : Summed (s .header .n) (s .g) chosen sums

@@ -52,17 +52,11 @@ fn store_digits(digits: &mut [i8; DIGITS], k: usize, n: usize, chosen: &[i8; ROW
     }
 }
 
-// The digits of the step before and those being chosen.
-struct Vectors {
-    before: [i8; ROWS],
-    chosen: [i8; ROWS],
-}
-
-// The step after the k-th, with each row summed over the columns in which it has entries. Both vectors go
-// in and come back by value, and change places: the digits chosen are the step before of the next step.
-// `sums` comes in with the rows' sums with the step before, and goes out with those of the next step. These
-// are made here, from the vector just chosen, since a copy of it has to wait until the single digits are
-// written.
+// The step after the k-th, with each row summed over the columns in which it has entries. The vector of the
+// step before and the vector being chosen go in by value, and the one chosen comes back; the caller swaps
+// the two. `sums` comes in with the rows' sums with the step before, whose digits the code need not
+// look at again, and goes out with those of the next step. These are made here, from the vector just chosen,
+// since a copy of it has to wait until the single digits are written.
 fn step_by_rows<'a>(
     h: Header,
     scale: usize,
@@ -78,22 +72,20 @@ fn step_by_rows<'a>(
     sums: &mut [i64; ROWS],
     z: &mut [i64; ROWS],
     digits: &mut [i8; DIGITS],
-) -> Vectors
+) -> [i8; ROWS]
     requires { ⌜ MayStepOnce (state-of true h scale k (now g) (now z) (now digits)) r q bits before chosen (now sums) × Starts (h .n) (now g) (now starts) × Ends (h .n) (now g) (now ends) × (length (now sums) ≡ 16) ⌝ }
-    ensures step { λ v. ⌜ Stepped (state-of true h scale k (now (g .entry)) (now (z .entry)) (now (digits .entry))) before (now (z .exit)) (now (digits .exit)) (v .before) (v .chosen) (now (sums .exit)) ⌝ }
+    ensures step { λ v. ⌜ Stepped (state-of true h scale k (now (g .entry)) (now (z .entry)) (now (digits .entry))) (now (z .exit)) (now (digits .exit)) v (now (sums .exit)) ⌝ }
     ensures size { λ _. ⌜ length (now (sums .exit)) ≡ 16 ⌝ }
 {
     let n = h.n;
     choice::choose(sums, z, &mut chosen, n, r, q, bits, h.p);
     sums::row_sums(g, starts, ends, &chosen, n, sums);
     store_digits(digits, k, n, &chosen);
-    Vectors {
-        before: chosen,
-        chosen: before,
-    }
+    chosen
 }
 
-// Makes the steps with each row summed over the columns in which it has entries.
+// Makes the steps with each row summed over the columns in which it has entries. After each step the two
+// vectors change places: the one just chosen is the step before of the next.
 fn run_by_rows(
     h: Header,
     scale: usize,
@@ -113,17 +105,13 @@ fn run_by_rows(
     let bits = job::inner_bits(h, scale);
     let starts = sums::row_starts(g, n);
     let ends = sums::row_ends(g, n);
-    let mut v = Vectors {
-        before: last_digits(digits, k, n),
-        chosen: [0; ROWS],
-    };
+    let mut before = last_digits(digits, k, n);
+    let mut chosen = [0i8; ROWS];
     let mut sums = [0i64; ROWS];
-    sums::row_sums(g, &starts, &ends, &v.before, n, &mut sums);
+    sums::row_sums(g, &starts, &ends, &before, n, &mut sums);
     let mut j: usize = 0;
     while j < made {
-        let before = v.before;
-        let chosen = v.chosen;
-        v = step_by_rows(
+        let newest = step_by_rows(
             h,
             scale,
             r,
@@ -139,6 +127,8 @@ fn run_by_rows(
             z,
             digits,
         );
+        chosen = before;
+        before = newest;
         j += 1;
     }
 }
@@ -159,21 +149,19 @@ fn step_by_columns<'a>(
     sums: &mut [i64; ROWS],
     z: &mut [i64; ROWS],
     digits: &mut [i8; DIGITS],
-) -> Vectors
+) -> [i8; ROWS]
     requires { ⌜ MayStepOnce (state-of true h scale k (now g) (now z) (now digits)) r q bits before chosen (now sums) × Products (h .n) (now g) (now table) × (h .p ≡ 1) ⌝ }
-    ensures { λ v. ⌜ Stepped (state-of true h scale k (now (g .entry)) (now (z .entry)) (now (digits .entry))) before (now (z .exit)) (now (digits .exit)) (v .before) (v .chosen) (now (sums .exit)) ⌝ }
+    ensures { λ v. ⌜ Stepped (state-of true h scale k (now (g .entry)) (now (z .entry)) (now (digits .entry))) (now (z .exit)) (now (digits .exit)) v (now (sums .exit)) ⌝ }
 {
     let n = h.n;
     choice::choose(sums, z, &mut chosen, n, r, q, bits, h.p);
     *sums = sums::column_sums(table, &chosen, n);
     store_digits(digits, k, n, &chosen);
-    Vectors {
-        before: chosen,
-        chosen: before,
-    }
+    chosen
 }
 
-// Makes the steps with the products looked up in a table. The radix of digits up to 1 is 2.
+// Makes the steps with the products looked up in a table; the two vectors change places as above. The radix
+// of digits up to 1 is 2.
 fn run_by_columns(
     h: Header,
     scale: usize,
@@ -191,16 +179,12 @@ fn run_by_columns(
     let q = job::sum_factor(h, scale);
     let bits = job::inner_bits(h, scale);
     let table = sums::products(g, n);
-    let mut v = Vectors {
-        before: last_digits(digits, k, n),
-        chosen: [0; ROWS],
-    };
-    let mut sums = sums::column_sums(&table, &v.before, n);
+    let mut before = last_digits(digits, k, n);
+    let mut chosen = [0i8; ROWS];
+    let mut sums = sums::column_sums(&table, &before, n);
     let mut j: usize = 0;
     while j < made {
-        let before = v.before;
-        let chosen = v.chosen;
-        v = step_by_columns(
+        let newest = step_by_columns(
             h,
             scale,
             2,
@@ -215,6 +199,8 @@ fn run_by_columns(
             z,
             digits,
         );
+        chosen = before;
+        before = newest;
         j += 1;
     }
 }

@@ -4,7 +4,7 @@
 // holds zeros.
 ghost use mathlib.Core.Path.{_≡_};
 ghost use mathlib.Core.Bool.{cond};
-ghost use Prim.Native.Nat.{_+_, _*_, _/_, _<_, _≤_, _^_};
+ghost use Prim.Native.Nat.{_+_, _-_, _*_, _/_, _<_, _≤_, _^_};
 ghost use lib.Dec.{ltb, eqb};
 ghost use lib.IntN.{pos, natAbs, _-ℤ_};
 ghost use lib.ListN.{length};
@@ -23,17 +23,25 @@ use job::ROWS;
 // The entries of a matrix: as many columns as rows.
 pub const ENTRIES: usize = ROWS * ROWS;
 
-// The matrix of a polynomial: x in the column after the diagonal, for which the last row has no column.
-fn polynomial_matrix(n: usize, x: i64) -> [i64; ENTRIES]
+// Stores x in the column after the diagonal, for which the last row has no column.
+fn place_argument(g: &mut [i64; ENTRIES], n: usize, x: i64)
     requires { ⌜ n ≤ 16 ⌝ }
-    ensures { λ r. ⌜ r ≡ flat-matrix n (curve-entry x no-denominator) ⌝ }
+    ensures { λ _. ⌜ now (g .exit) ≡ stores (now (g .entry)) (λ i. 16 * i + (i + 1)) (λ i. x) (n - 1) ⌝ }
 {
-    let mut g = [0i64; ENTRIES];
     let mut i: usize = 0;
     while i + 1 < n {
         g[16 * i + (i + 1)] = x;
         i += 1;
     }
+}
+
+// The matrix of a polynomial: x and nothing else.
+fn polynomial_matrix(n: usize, x: i64) -> [i64; ENTRIES]
+    requires { ⌜ n ≤ 16 ⌝ }
+    ensures { λ r. ⌜ r ≡ flat-matrix n (curve-entry x no-denominator) ⌝ }
+{
+    let mut g = [0i64; ENTRIES];
+    place_argument(&mut g, n, x);
     g
 }
 
@@ -42,7 +50,8 @@ fn rational_matrix(n: usize, v: &[i64]) -> [i64; ENTRIES]
     requires { ⌜ (1 ≤ n) × (n ≤ 16) × Numbers (2 * n) (now v) ⌝ }
     ensures { λ r. ⌜ r ≡ flat-matrix n (curve-entry (argument (now (v .entry))) (denominator n (now (v .entry)))) ⌝ }
 {
-    let mut g = polynomial_matrix(n, v[0]);
+    let mut g = [0i64; ENTRIES];
+    place_argument(&mut g, n, v[0]);
     let mut i: usize = 0;
     while i + 1 < n {
         g[16 * (i + 1)] = 0 - v[n + (i + 1)];

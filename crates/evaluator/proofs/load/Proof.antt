@@ -1,7 +1,7 @@
 -- Refused by 1 to 7, or by 8 and 15, or else the fresh state of the job.
 use borrow.Author.Needs.{needs}
-use Rattle.frame.proofs.ReadJob.{JobRead, Unpacked, unpack-limits, unpack-gives, part-long, part-within, part-small, job-made}
-use Rattle.evaluator.proofs.Loading.{load-short, load-refuses, load-makes}
+use Rattle.frame.proofs.ReadJob.{Unpacked, unpack-limits, unpack-gives, part-long, part-within, part-small}
+use Rattle.evaluator.proofs.Loading.{load-short, load-weighs, load-refuses, load-makes}
 use Rattle.evaluator.proofs.load.Statement.{statement}
 use Rattle.evaluator.proofs.load.Tie as tie
 
@@ -9,11 +9,6 @@ unpacked : (c : tie.After-count)
     → let u = c .before .before .before .before .before in
     Unpacked (u .before .before .before .args .s .now) (u .unpack .result) (u .unpack .last .1 .0) (c .count .result)
 unpacked c = unpack-gives _ _ (c .before .before .before .before .before .unpack .ensures) (c .before .before .if1 .left) (c .count .ensures)
-
-job : (c : tie.After-set-up)
-    → let u = c .before .before .before .before .before .before .before in
-    JobRead (u .before .before .before .args .s .now) (c .set-up .result) (u .unpack .last .1 .0)
-job c = job-made (unpacked (c .before .before)) (c .set-up .ensures)
 
 slice-aggregate-unpack : tie.Need-slice-aggregate-unpack
 slice-aggregate-unpack c = search needs
@@ -33,23 +28,32 @@ count-requires c κs = unpack-limits _ _ (c .before .before .before .before .unp
 array-share-prefix-v : tie.Need-array-share-prefix-v
 array-share-prefix-v c = part-within (unpacked c)
 
-slice-aggregate-set-up : tie.Need-slice-aggregate-set-up
-slice-aggregate-set-up c = part-long (unpacked (c .before))
+slice-aggregate-numbers : tie.Need-slice-aggregate-numbers
+slice-aggregate-numbers c = part-long (unpacked (c .before))
 
-set-up-requires : tie.Need-set-up-requires
-set-up-requires c κs = part-small (unpacked (c .before))
+right-sides-requires : tie.Need-right-sides-requires
+right-sides-requires c κs = let p = part-small (unpacked (c .before)) in (p .0, p .1 .enough)
+
+matrix-requires : tie.Need-matrix-requires
+matrix-requires c κs = part-small (unpacked (c .before .before))
+
+weigh-requires : tie.Need-weigh-requires
+weigh-requires c κs = load-weighs (unpacked (c .before .before .before .before .before)) (c .before .before .before .right-sides .ensures)
 
 refused-requires-2 : tie.Need-refused-requires-2
 refused-requires-2 c κs = search needs
 
 returns-2 : tie.Need-returns-2
-returns-2 c = load-refuses (job (c .before .before .before)) (c .before .if2 .taken) (c .refused2 .ensures)
+returns-2 c =
+    let d = c .before .before .before in
+    let g = d .before .before .before in
+    load-refuses (unpacked (g .before .before .before)) (g .matrix .ensures) (g .before .right-sides .ensures) (d .weigh .ensures) (c .before .if2 .taken) (c .refused2 .ensures)
 
 returns-3 : tie.Need-returns-3
 returns-3 c =
-    let e = c .before .before in
-    let d = e .before .before in
-    load-makes (job d) (e .if2 .left) _ (d .set-up .ensures .header)
+    let d = c .before .before in
+    let g = d .before .before .before in
+    load-makes (unpacked (g .before .before .before)) (g .matrix .ensures) (g .before .right-sides .ensures) (d .weigh .ensures) (c .if2 .left)
 
 pub load-spec : {M : Type 1} → statement M
 load-spec =
@@ -61,8 +65,10 @@ load-spec =
     returns
     count-requires
     array-share-prefix-v
-    slice-aggregate-set-up
-    set-up-requires
+    slice-aggregate-numbers
+    right-sides-requires
+    matrix-requires
+    weigh-requires
     refused-requires-2
     returns-2
     returns-3)

@@ -23,8 +23,8 @@ returns-2 c =
     let a = n .before .args in
     fit-decides (a .h) (a .v .now) (n .count .ensures) (t .before .before .if1 .left) (t .all-fit .ensures) (c .if2 .taken)
 
-set-up-requires : tie.Need-set-up-requires
-set-up-requires c κs =
+system-verdict-requires : tie.Need-system-verdict-requires
+system-verdict-requires c κs =
     let t = c .before in
     let n = t .before .before .before in
     let a = n .before .args in
@@ -36,7 +36,7 @@ returns-3 c =
     let t = e .before in
     let n = t .before .before .before in
     let a = n .before .args in
-    rows-decide (a .h) (a .v .now) (n .count .ensures) (t .before .before .if1 .left) (t .all-fit .ensures) (e .if2 .left) (c .set-up .ensures .verdict)
+    rows-decide (a .h) (a .v .now) (n .count .ensures) (t .before .before .if1 .left) (t .all-fit .ensures) (e .if2 .left) (c .system-verdict .ensures)
 
 pub numbers-verdict-spec : {M : Type 1} → statement M
 numbers-verdict-spec =
@@ -47,5 +47,5 @@ numbers-verdict-spec =
     add-all-fit
     all-fit-requires
     returns-2
-    set-up-requires
+    system-verdict-requires
     returns-3)

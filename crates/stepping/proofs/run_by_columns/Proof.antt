@@ -13,11 +13,11 @@ use Rattle.stepping.proofs.run_by_columns.Statement.{statement}
 use Rattle.stepping.proofs.run_by_columns.Tie as tie
 
 abbrev Inv-loop : tie.InvT-loop
-Inv-loop h scale k made g z₀ digits₀ n q bits table v₀ sums₀ j₀ z digits v sums j =
-    (j ≤ made) × Reached (state-of true h scale k g z₀ digits₀) j digits z (v .before) (v .chosen) sums
+Inv-loop h scale k made g z₀ digits₀ n q bits table before₀ chosen₀ sums₀ j₀ z digits before chosen sums j =
+    (j ≤ made) × Reached (state-of true h scale k g z₀ digits₀) j digits z before chosen sums
 
 abbrev μ-loop : tie.MeasureT-loop
-μ-loop h scale k made g z₀ digits₀ n q bits table v₀ sums₀ j₀ z digits v sums j = made - j
+μ-loop h scale k made g z₀ digits₀ n q bits table before₀ chosen₀ sums₀ j₀ z digits before chosen sums j = made - j
 
 sum-factor-requires : tie.Need-sum-factor-requires Inv-loop μ-loop
 sum-factor-requires c κs = let p = c .pre .0 .passes in (p .limits, p .scaled)
@@ -38,27 +38,27 @@ start d = d .before .before .before .before .before
 
 column-sums-requires : tie.Need-column-sums-requires Inv-loop μ-loop
 column-sums-requires c κs =
-    let d = c .before .before .before in
+    let d = c .before .before in
     let p = start d .pre in
     let b = p .0 .passes in
     (b .limits .order-most, d .before .before .products .ensures .table, digits-signs (first-limits b (d .last-digits .ensures)) (p .1))
 
 loop-holds : tie.Need-loop-holds Inv-loop μ-loop
 loop-holds c =
-    let d = c .before .before .before .before in
+    let d = c .before .before .before in
     (omega arith, reached-start (d .last-digits .ensures) (table-summed _ _ (start d .pre .0 .passes .limits .order-most) (d .before .before .products .ensures) (c .column-sums .ensures)))
 
 -- ---- a turn
 
 abbrev begun : tie.In-loop Inv-loop μ-loop → tie.After-last-digits Inv-loop μ-loop
-begun i = i .before .before .before .before .before .before
+begun i = i .before .before .before .before .before
 
 add-step-by-columns : tie.Need-add-step-by-columns Inv-loop μ-loop
-add-step-by-columns c = let i = c .before .before in omega (arith, steps-have-room (start (begun i) .pre .0), i .loop-test .taken)
+add-step-by-columns c = omega (arith, steps-have-room (start (begun c) .pre .0), c .loop-test .taken)
 
 step-by-columns-requires : tie.Need-step-by-columns-requires Inv-loop μ-loop
 step-by-columns-requires c κs =
-    let i = c .before .before .before .before .before .before in
+    let i = c .before .before .before .before in
     let d = begun i in
     let p = start d .pre in (
       reached-may (p .0) (i .loop-test .taken) (i .before .loop .inv .1) _ _ _ (radix-two (p .0 .passes .limits) (p .1))
@@ -68,7 +68,7 @@ step-by-columns-requires c κs =
     )
 
 abbrev taken : tie.After-step-by-columns Inv-loop μ-loop → tie.In-loop Inv-loop μ-loop
-taken c = c .before .before .before .before .before .before .before
+taken c = c .before .before .before .before .before
 
 add-j : tie.Need-add-j Inv-loop μ-loop
 add-j c = let i = taken c in omega (arith, steps-have-room (start (begun i) .pre .0), i .loop-test .taken)
@@ -84,7 +84,7 @@ loop-again c =
 returns : tie.Need-returns Inv-loop μ-loop
 returns c =
     let l = c .before .loop in
-    let e : l .j ≡ start (c .before .before .before .before .before .before) .args .made = omega arith in
+    let e : l .j ≡ start (c .before .before .before .before .before) .args .made = omega arith in
     (rw e at (l .inv .1 .residuals), rw e at (l .inv .1 .digits))
 
 pub run-by-columns-spec : {M : Type 1} → statement M

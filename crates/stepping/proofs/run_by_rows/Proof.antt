@@ -13,11 +13,11 @@ use Rattle.stepping.proofs.run_by_rows.Statement.{statement}
 use Rattle.stepping.proofs.run_by_rows.Tie as tie
 
 abbrev Inv-loop : tie.InvT-loop
-Inv-loop h scale k made g z₀ digits₀ n r q bits starts ends v₀ sums₀ j₀ z digits v sums j =
-    (j ≤ made) × (length sums ≡ 16) × Reached (state-of true h scale k g z₀ digits₀) j digits z (v .before) (v .chosen) sums
+Inv-loop h scale k made g z₀ digits₀ n r q bits starts ends before₀ chosen₀ sums₀ j₀ z digits before chosen sums j =
+    (j ≤ made) × (length sums ≡ 16) × Reached (state-of true h scale k g z₀ digits₀) j digits z before chosen sums
 
 abbrev μ-loop : tie.MeasureT-loop
-μ-loop h scale k made g z₀ digits₀ n r q bits starts ends v₀ sums₀ j₀ z digits v sums j = made - j
+μ-loop h scale k made g z₀ digits₀ n r q bits starts ends before₀ chosen₀ sums₀ j₀ z digits before chosen sums j = made - j
 
 radix-requires : tie.Need-radix-requires Inv-loop μ-loop
 radix-requires c κs = c .pre .passes .limits .code-most
@@ -44,13 +44,13 @@ start d = d .before .before .before .before .before .before .before
 
 row-sums-requires : tie.Need-row-sums-requires Inv-loop μ-loop
 row-sums-requires c κs =
-    let d = c .before .before .before .before .before in
+    let d = c .before .before .before .before in
     let b = start d .pre .passes in
     (b .limits .order-most, may-sum-rows (first-limits b (d .last-digits .ensures)), d .before .before .before .row-starts .ensures, d .before .before .row-ends .ensures)
 
 loop-holds : tie.Need-loop-holds Inv-loop μ-loop
 loop-holds c =
-    let d = c .before .before .before .before .before .before in
+    let d = c .before .before .before .before .before in
     let j : 0 ≤ start d .args .made = omega arith in
     let q = rows-summed (replicate 16 (pos 0)) refl (start d .pre .passes .limits .order-most) (c .row-sums .ensures) in
     (j, q .0, reached-start (d .last-digits .ensures) (q .1))
@@ -58,14 +58,14 @@ loop-holds c =
 -- ---- a turn
 
 abbrev begun : tie.In-loop Inv-loop μ-loop → tie.After-last-digits Inv-loop μ-loop
-begun i = i .before .before .before .before .before .before .before .before
+begun i = i .before .before .before .before .before .before .before
 
 add-step-by-rows : tie.Need-add-step-by-rows Inv-loop μ-loop
-add-step-by-rows c = let i = c .before .before in omega (arith, steps-have-room (start (begun i) .pre), i .loop-test .taken)
+add-step-by-rows c = omega (arith, steps-have-room (start (begun c) .pre), c .loop-test .taken)
 
 step-by-rows-requires : tie.Need-step-by-rows-requires Inv-loop μ-loop
 step-by-rows-requires c κs =
-    let i = c .before .before .before .before .before .before .before in
+    let i = c .before .before .before .before .before in
     let d = begun i in
     let v = i .before .loop .inv in (
       reached-may (start d .pre) (i .loop-test .taken) (v .2) _ _ _ (d .before .before .before .before .before .before .radix .ensures)
@@ -76,7 +76,7 @@ step-by-rows-requires c κs =
     )
 
 abbrev taken : tie.After-step-by-rows Inv-loop μ-loop → tie.In-loop Inv-loop μ-loop
-taken c = c .before .before .before .before .before .before .before .before
+taken c = c .before .before .before .before .before .before
 
 add-j : tie.Need-add-j Inv-loop μ-loop
 add-j c = let i = taken c in omega (arith, steps-have-room (start (begun i) .pre), i .loop-test .taken)
@@ -93,7 +93,7 @@ loop-again c =
 returns : tie.Need-returns Inv-loop μ-loop
 returns c =
     let l = c .before .loop in
-    let e : l .j ≡ start (c .before .before .before .before .before .before .before .before) .args .made = omega arith in
+    let e : l .j ≡ start (c .before .before .before .before .before .before .before) .args .made = omega arith in
     (rw e at (l .inv .2 .residuals), rw e at (l .inv .2 .digits))
 
 pub run-by-rows-spec : {M : Type 1} → statement M

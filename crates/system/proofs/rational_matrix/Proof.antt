@@ -1,5 +1,5 @@
 -- After i rows, the second to the i-th hold their coefficients.
-use mathlib.Core.Path.{_≡_, sym}
+use mathlib.Core.Path.{_≡_, sym, _∙_}
 use Prim.Native.Nat.{_+_, _-_, _≤_, _^_}
 use native.Mathlib.Omega.{arith}
 use lib.IntN.{negℤ}
@@ -10,7 +10,7 @@ use Rattle.integers.proofs.Stores.{stores-zero}
 use Rattle.system.specs.System.{argument, denominator}
 use Rattle.system.proofs.Numbers.{argument-read, negated-is}
 use Rattle.system.proofs.Arrays.{stores-more}
-use Rattle.system.proofs.Setup.{denominator-place, denominator-placed}
+use Rattle.system.proofs.Setup.{argument-filled, denominator-place, denominator-placed}
 use Rattle.system.proofs.rational_matrix.Statement.{statement}
 use Rattle.system.proofs.rational_matrix.Tie as tie
 
@@ -21,18 +21,18 @@ abbrev μ-loop : tie.MeasureT-loop
 μ-loop n v g₀ i₀ g i = n - i
 
 -- the coefficient that a turn reads
-coefficient : (c : tie.After-g Inv-loop μ-loop)
-    → Within (denominator (c .before .before .before .before .before .args .n) (c .before .before .before .before .before .args .v .now) (c .before .before .loop .i + 1)) (2 ^ 41)
+coefficient : (c : tie.After-g2 Inv-loop μ-loop)
+    → Within (denominator (c .before .before .before .before .before .before .args .n) (c .before .before .before .before .before .before .args .v .now) (c .before .before .loop .i + 1)) (2 ^ 41)
 coefficient c =
-    let st = c .before .before .before .before .before in
+    let st = c .before .before .before .before .before .before in
     st .pre .2 .small (st .args .n + (c .before .before .loop .i + 1)) (omega arith)
 
-shared-slice-copy-out-polynomial-matrix :
-    tie.Need-shared-slice-copy-out-polynomial-matrix Inv-loop μ-loop
-shared-slice-copy-out-polynomial-matrix c = omega (arith, c .pre .2 .enough)
+shared-slice-copy-out-place-argument :
+    tie.Need-shared-slice-copy-out-place-argument Inv-loop μ-loop
+shared-slice-copy-out-place-argument c = omega (arith, c .before .pre .2 .enough)
 
-polynomial-matrix-requires : tie.Need-polynomial-matrix-requires Inv-loop μ-loop
-polynomial-matrix-requires c κs = c .before .pre .1
+place-argument-requires : tie.Need-place-argument-requires Inv-loop μ-loop
+place-argument-requires c κs = c .before .before .pre .1
 
 loop-holds : tie.Need-loop-holds Inv-loop μ-loop
 loop-holds c = (omega arith, sym (stores-zero _ _ _))
@@ -50,7 +50,7 @@ mul-g : tie.Need-mul-g Inv-loop μ-loop
 mul-g c = omega arith
 
 shared-slice-copy-out-g : tie.Need-shared-slice-copy-out-g Inv-loop μ-loop
-shared-slice-copy-out-g c = omega (arith, c .before .before .before .before .pre .2 .enough)
+shared-slice-copy-out-g c = omega (arith, c .before .before .before .before .before .pre .2 .enough)
 
 sub-g : tie.Need-sub-g Inv-loop μ-loop
 sub-g c = let w = coefficient c in machine-fits (search machs depth 9) tt
@@ -80,10 +80,11 @@ loop-again c =
 
 returns : tie.Need-returns Inv-loop μ-loop
 returns c =
-    let st = c .before .before .before .before in
+    let st = c .before .before .before .before .before in
     let l = c .before .loop in
+    let p = c .before .before in
     denominator-placed (st .args .n) (st .pre .1) (argument (st .args .v .now)) (denominator (st .args .n) (st .args .v .now)) _ (l .g) (l .i)
-    (argument-read (st .args .n) (st .args .v .now) _ (c .before .before .before .polynomial-matrix-arg .given) (c .before .before .polynomial-matrix .ensures))
+    (argument-read (st .args .n) (st .args .v .now) _ (p .before .place-argument-arg .given) (p .place-argument .ensures ∙ argument-filled (st .args .n) (st .pre .1) _))
     (l .inv .1) (omega arith)
 
 pub rational-matrix-spec : {M : Type 1} → statement M
@@ -92,8 +93,8 @@ rational-matrix-spec =
     (tie.spec
     Inv-loop
     μ-loop
-    shared-slice-copy-out-polynomial-matrix
-    polynomial-matrix-requires
+    shared-slice-copy-out-place-argument
+    place-argument-requires
     loop-holds
     add-loop
     add-g
