@@ -2,7 +2,9 @@
 use mathlib.Core.Path.{_≡_, refl, ap, _∙_}
 use mathlib.Core.List.{List, [], _∷_}
 use Prim.Native.Nat.{ℕ, zero, suc, _+_, _*_, _-_, _^_, _<_, _≤_}
+use native.Mathlib.Nat.{pow-succ', one-le-pow, mul-le-mul, mul-le-mul-left, mul-le-mul-right, le-of-mul-le-mul-left}
 use native.Mathlib.Omega.{arith}
+use lib.Pow.{pow-add}
 use lib.IntN.{ℤ, pos, natAbs, _+ℤ_, _-ℤ_, _*ℤ_}
 use lib.ListN.{length, drop, List·getD-append}
 use Rattle.integers.specs.Flat.{at, list-from}
@@ -35,7 +37,7 @@ use Rattle.evaluator.proofs.Kept.{loaded-passes}
 use Rattle.evaluator.proofs.Theorems.{refused-readings}
 use Rattle.stepping.proofs.Steps.{steps-header, steps-scale, steps-k}
 use Rattle.stepping.proofs.Follow.{fresh-follows, follows-steps}
-use Rattle.accuracy.specs.Accuracy.{Call, budgets, after, Accurate, EveryFrameAccurate}
+use Rattle.accuracy.specs.Accuracy.{Call, budgets, after, DigitCount, Accurate, EveryFrameAccurate}
 use Rattle.accuracy.proofs.Runs.{smaller-within, run-is}
 
 -- ---- laws over plain numbers
@@ -64,6 +66,21 @@ near-scaled p D c N R Y q l =
   where
     turned : (D c Y : ℤ) → D *ℤ Y *ℤ c ≡ D *ℤ c *ℤ Y
     turned D c Y = solve (D ∷ c ∷ Y ∷ []) (search polys depth 12) (search polys depth 12) tt
+
+-- after m + 1 + s steps a distance of at most p D r^s over r - 1 is below D r^k over r^m, as p is at most r - 1
+nearer : (r p m s D x : ℕ) → 2 ≤ r → p ≤ r - 1 → 0 < D → (r - 1) * x ≤ p * D * r ^ s → r ^ m * x < D * r ^ (m + 1 + s)
+nearer r p m s D x two small some near =
+    let c : 1 ≤ r ^ s = one-le-pow s r (omega arith) in
+    let q : 1 ≤ r ^ m = one-le-pow m r (omega arith) in
+    let within : x ≤ D * r ^ s = le-of-mul-le-mul-left {k = r - 1} (omega (arith, mul-le-mul-right (D * r ^ s) small)) (omega arith) in
+    let e : m + 1 + s ≡ suc (m + s) = omega arith in
+    rw (e, pow-succ' r (m + s), pow-add r m s) (below (r ^ m) (r ^ s) q c within)
+  where
+    below : (q c : ℕ) → 1 ≤ q → 1 ≤ c → x ≤ D * c → q * x < D * (r * (q * c))
+    below q c hq hc l =
+        let t : 1 ≤ q * (D * c) = mul-le-mul hq (mul-le-mul some hc) in
+        let u : 2 * (q * (D * c)) ≤ r * (q * (D * c)) = mul-le-mul-right (q * (D * c)) two in
+        omega (arith, mul-le-mul-left q l)
 
 -- what a state that follows the recurrence holds, by its header, its scale and its steps
 module _ (G : ℕ → ℕ → ℤ) (B : ℕ → ℤ) (t : State) (h : Header) (s k : ℕ) (e : t .header ≡ h) (c : t .scale ≡ s) (f : t .k ≡ k) (holds : Follows G B t) where
@@ -150,6 +167,19 @@ module _ (frame : List ℕ) (ok : frame-refusal frame ≡ 0) where
   rows : LightRows n r (h .p) (inner-unit h s) bound-over bound-under inner
   rows = record { rows = λ i l. light-row-finer h s (G i) limits (accepted .light i l) }
 
+  -- the distance of the digits that the steps give, after any number of steps k
+  near-steps : (k : ℕ) (N : ℕ → ℤ) (D : ℕ) → Solves n (unit h) D G B N → (i : ℕ) → i < n →
+      (r - 1) * natAbs (N i *ℤ pos (r ^ k) -ℤ pos D *ℤ reading r (job-digit h s G B) k i *ℤ pos (scale-factor h s)) ≤ h .p * D * scale-factor h s
+  near-steps k N D exact i c =
+      near-scaled (h .p) D (scale-factor h s) (N i) (r ^ k) (reading r (job-digit h s G B) k i) (r - 1)
+      (select-distance (omega (arith, radix-least h limits)) (omega (arith, inner-least h s (scaled .limits) limits)) rows
+      (λ i l. start-kept h s (B i) (scaled .smallest .fit i l)) (solves-finer n (unit h) D (scale-factor h s) G B N exact) k i c)
+
+  -- and their digit count
+  pub counted : DigitCount frame (reading r (job-digit h s G B) (last-step h s))
+  counted N D some exact i c =
+      nearer r (h .p) (h .m) s D _ (radix-least h limits) (limits .digit-most) some (near-steps (last-step h s) N D exact i c)
+
   -- what the j-th state holds
   module _ (j : ℕ) (few-j : j ≤ last-step h s) where
     k-is : at-step j .k ≡ j
@@ -192,9 +222,9 @@ module _ (frame : List ℕ) (ok : frame-refusal frame ≡ 0) where
         later-digits = λ t i a b c. rw (run-to calls) (held-later G B (at-step j) h s j (header-is j few-j) (scale-is j few-j) (k-is j few-j) (holds j few-j) t i (rw (run-to calls, k-is j few-j) at a) b c);
         scale-held = rw (run-to calls) (scale-is j few-j);
         near = λ k a N D d exact i c. rw (run-to calls, held-reading G B (at-step j) h s j (header-is j few-j) (scale-is j few-j) (k-is j few-j) (holds j few-j) k i (rw (run-to calls, k-is j few-j) at a) c)
-            (near-scaled (h .p) D (scale-factor h s) (N i) (r ^ k) (reading r (job-digit h s G B) k i) (r - 1)
-            (select-distance (omega (arith, radix-least h limits)) (omega (arith, inner-least h s (scaled .limits) limits)) rows
-            (λ i l. start-kept h s (B i) (scaled .smallest .fit i l)) (solves-finer n (unit h) D (scale-factor h s) G B N exact) k i c));
+            (near-steps k N D exact i c);
+        digit-count = λ e N D d exact i c. rw (run-to calls, held-reading G B (at-step j) h s j (header-is j few-j) (scale-is j few-j) (k-is j few-j) (holds j few-j) (last-step h s) i (omega (arith, rw (run-to calls, k-is j few-j) at e)) c)
+            (counted N D d exact i c);
         curve = λ a. kind-value (kind-of (h .kind)) n (unit h) v a (omega (arith, unit-least h limits)) (limits .order-least)
             (λ i l. short r (h .p) (unit h) bound-over bound-under (weight n (G i)) (radix-least h limits) (digit-positive h limits) (limits .digit-most) (omega arith) (omega arith)
             (light-row h (weight n (G i)) limits (accepted .light i l)));

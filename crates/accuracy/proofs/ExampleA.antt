@@ -21,7 +21,7 @@ use Rattle.accuracy.specs.Accuracy as calls
 use Rattle.accuracy.specs.Accuracy.{Call, advance, readings, ExactValues, G, b, after, true-digit}
 use Rattle.evaluator.proofs.ExamplePastOrder.{frame-A}
 
--- ---- A: polynomial, x 4, p 3 and 8, over 16; four steps
+-- ---- A: polynomial, x 4, p 3 and 8, over 16; m 4, and so five steps
 
 -- D: x 5 in A
 unfoldable pub frame-D : List ℕ
@@ -60,16 +60,16 @@ unfolding frame-A frame-checks field number bits values-from decode curve-entry 
 accepted-A = refl
 
 -- the digits of row 1 and of row 2, step by step
-pub digits-A : (map (λ j. true-digit frame-A j 0) (1 ∷ 2 ∷ 3 ∷ 4 ∷ []) ≡ pos 0 ∷ pos 1 ∷ pos 1 ∷ negsuc 0 ∷ [])
-    × (map (λ j. true-digit frame-A j 1) (1 ∷ 2 ∷ 3 ∷ 4 ∷ []) ≡ pos 1 ∷ pos 0 ∷ pos 0 ∷ pos 0 ∷ [])
+pub digits-A : (map (λ j. true-digit frame-A j 0) (1 ∷ 2 ∷ 3 ∷ 4 ∷ 5 ∷ []) ≡ pos 0 ∷ pos 1 ∷ pos 1 ∷ negsuc 0 ∷ pos 0 ∷ [])
+    × (map (λ j. true-digit frame-A j 1) (1 ∷ 2 ∷ 3 ∷ 4 ∷ 5 ∷ []) ≡ pos 1 ∷ pos 0 ∷ pos 0 ∷ pos 0 ∷ pos 0 ∷ [])
 unfolding frame-A field number bits values-from decode curve-entry matrix right-side dot sum shifted next-digit next-residual digit residual select digit-size every
 digits-A = (refl, refl)
 
 -- the t-th of them, from 0
-pub digit-1-A : (t : ℕ) → at (map (λ j. true-digit frame-A j 0) (1 ∷ 2 ∷ 3 ∷ 4 ∷ [])) t ≡ at (pos 0 ∷ pos 1 ∷ pos 1 ∷ negsuc 0 ∷ []) t
+pub digit-1-A : (t : ℕ) → at (map (λ j. true-digit frame-A j 0) (1 ∷ 2 ∷ 3 ∷ 4 ∷ 5 ∷ [])) t ≡ at (pos 0 ∷ pos 1 ∷ pos 1 ∷ negsuc 0 ∷ pos 0 ∷ []) t
 digit-1-A t = ap (λ (row : List ℤ). at row t) (digits-A .0)
 
-pub digit-2-A : (t : ℕ) → at (map (λ j. true-digit frame-A j 1) (1 ∷ 2 ∷ 3 ∷ 4 ∷ [])) t ≡ at (pos 1 ∷ pos 0 ∷ pos 0 ∷ pos 0 ∷ []) t
+pub digit-2-A : (t : ℕ) → at (map (λ j. true-digit frame-A j 1) (1 ∷ 2 ∷ 3 ∷ 4 ∷ 5 ∷ [])) t ≡ at (pos 1 ∷ pos 0 ∷ pos 0 ∷ pos 0 ∷ pos 0 ∷ []) t
 digit-2-A t = ap (λ (row : List ℤ). at row t) (digits-A .1)
 
 -- 5/16 and 8/16 solve both rows
@@ -86,14 +86,14 @@ exact-A = record { solves = solves-row }
     solves-row (suc (suc i)) l = absurd (omega arith)
 
 -- the calls themselves: readings to no word and to one word are refused by 23, those to three words are not;
--- at the end four steps are made, readings leave 5, 8 and the third word, and the scale is 0
+-- at the end five steps are made, readings leave 10, 16 and the third word, and the scale is 0
 pub readings-A : (x y w : ℤ) →
     (readings-refusal (after frame-A two-steps-A) 0 ≡ 23)
     × (readings-refusal (after frame-A middle-A) 3 ≡ 0)
     × (readings-refusal (after frame-A end-A) 1 ≡ 23)
     × (readings-refusal (after frame-A calls-A) 3 ≡ 0)
-    × (after frame-A calls-A .k ≡ 4)
-    × (readings-list (after frame-A calls-A) (x ∷ y ∷ w ∷ []) ≡ pos 5 ∷ pos 8 ∷ w ∷ [])
+    × (after frame-A calls-A .k ≡ 5)
+    × (readings-list (after frame-A calls-A) (x ∷ y ∷ w ∷ []) ≡ pos 10 ∷ pos 16 ∷ w ∷ [])
     × (after frame-A calls-A .scale ≡ 0)
 unfolding frame-A calls-A two-steps-A middle-A end-A calls.run loaded advanced advance-checks steps-made steps one-step readings-checks readings-list fresh breaks-limit beyond frame-checks field number bits values-from decode curve-entry matrix right-side first-row-from every weight total dot sum list-from stores stepped-digits stepped-residuals shifted next-digit next-residual select digit-size reading
 readings-A x y w = (refl, refl, refl, refl, refl, refl, refl)

@@ -16,8 +16,8 @@ use Rattle.evaluator.proofs.ExamplePastOrder.{frame-A}
 use Rattle.accuracy.proofs.ExampleA.{calls-A, one-step-A, two-steps-A, digits-A}
 
 module _ (holds : (calls : List Call) → Accurate frame-A calls) where
-  -- the budgets 1, 0 and 9 make four steps, since the fourth is the last
-  pub steps-A : after frame-A calls-A .k ≡ 4
+  -- the budgets 1, 0 and 9 make five steps, since the fifth is the last
+  pub steps-A : after frame-A calls-A .k ≡ 5
   unfolding frame-A calls-A budgets field number bits values-from decode right-side every
   steps-A = omega (arith, holds calls-A .steps-made)
 
@@ -36,23 +36,24 @@ module _ (holds : (calls : List Call) → Accurate frame-A calls) where
   unfolding frame-A field number bits
   held-A calls k e j i a b c = holds calls .digits j i (omega arith) (omega arith) (omega arith)
 
-  -- after four steps the digits of row 1 are 0, 1, 1, -1
-  pub row-A : map (λ j. held-digit frame-A calls-A j 0) (1 ∷ 2 ∷ 3 ∷ 4 ∷ []) ≡ pos 0 ∷ pos 1 ∷ pos 1 ∷ negsuc 0 ∷ []
+  -- after five steps the digits of row 1 are 0, 1, 1, -1, 0
+  pub row-A : map (λ j. held-digit frame-A calls-A j 0) (1 ∷ 2 ∷ 3 ∷ 4 ∷ 5 ∷ []) ≡ pos 0 ∷ pos 1 ∷ pos 1 ∷ negsuc 0 ∷ pos 0 ∷ []
   row-A =
       rw (
-        held-A calls-A 4 steps-A 1 0 (omega arith) (omega arith) (omega arith),
-        held-A calls-A 4 steps-A 2 0 (omega arith) (omega arith) (omega arith),
-        held-A calls-A 4 steps-A 3 0 (omega arith) (omega arith) (omega arith),
-        held-A calls-A 4 steps-A 4 0 (omega arith) (omega arith) (omega arith),
+        held-A calls-A 5 steps-A 1 0 (omega arith) (omega arith) (omega arith),
+        held-A calls-A 5 steps-A 2 0 (omega arith) (omega arith) (omega arith),
+        held-A calls-A 5 steps-A 3 0 (omega arith) (omega arith) (omega arith),
+        held-A calls-A 5 steps-A 4 0 (omega arith) (omega arith) (omega arith),
+        held-A calls-A 5 steps-A 5 0 (omega arith) (omega arith) (omega arith),
       )
       (digits-A .0)
 
-  -- which spell 1 after two of the steps and 5 after all four
-  pub spelt-A : (Y frame-A calls-A 2 0 ≡ pos 1) × (Y frame-A calls-A 4 0 ≡ pos 5)
+  -- which spell 1 after two of the steps and 10 after all five
+  pub spelt-A : (Y frame-A calls-A 2 0 ≡ pos 1) × (Y frame-A calls-A 5 0 ≡ pos 10)
   unfolding frame-A reading field number bits
-  spelt-A = (rw (held 0, held 1) refl, rw (held 0, held 1, held 2, held 3) refl)
+  spelt-A = (rw (held 0, held 1) refl, rw (held 0, held 1, held 2, held 3, held 4) refl)
     where
-      held : (t : ℕ) → at (map (λ j. held-digit frame-A calls-A j 0) (1 ∷ 2 ∷ 3 ∷ 4 ∷ [])) t ≡ at (pos 0 ∷ pos 1 ∷ pos 1 ∷ negsuc 0 ∷ []) t
+      held : (t : ℕ) → at (map (λ j. held-digit frame-A calls-A j 0) (1 ∷ 2 ∷ 3 ∷ 4 ∷ 5 ∷ [])) t ≡ at (pos 0 ∷ pos 1 ∷ pos 1 ∷ negsuc 0 ∷ pos 0 ∷ []) t
       held t = ap (λ (row : List ℤ). at row t) row-A
 
   -- after two steps the digit of step 3 and row 1 is 0

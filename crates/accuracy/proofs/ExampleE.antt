@@ -1,8 +1,9 @@
 -- Demand 3 at work on document 01's case E, p_0 9 in A, whose scale is 1: from the statement alone, the
--- scale, the steps, how near two digits come, and the identity over the divided right-hand sides.
+-- scale, the steps, how near two digits come and how near all, and the identity over the divided right-hand
+-- sides.
 use mathlib.Core.Path.{_≡_, refl}
 use mathlib.Core.List.{List, [], _∷_}
-use Prim.Native.Nat.{ℕ, zero, suc, _<_, _≤_}
+use Prim.Native.Nat.{ℕ, zero, suc, _*_, _<_, _≤_}
 use native.Mathlib.Omega.{arith}
 use lib.IntN.{ℤ, pos, negsuc, natAbs, _+ℤ_, _-ℤ_, _*ℤ_}
 use Rattle.integers.specs.Flat.{at, list-from, stores}
@@ -50,16 +51,16 @@ exact-E = record { solves = solves-row }
     solves-row (suc zero) l = refl
     solves-row (suc (suc i)) l = absurd (omega arith)
 
--- the first two digits of row 1 spell 2; after one step the digits are 1 and 1
-spelt-E : (Y frame-E calls-E 2 0 ≡ pos 2) × (held-digit frame-E one-step-E 1 0 ≡ pos 1) × (held-digit frame-E one-step-E 1 1 ≡ pos 1)
+-- the first two digits of row 1 spell 2, and all six 22; after one step the digits are 1 and 1
+spelt-E : (Y frame-E calls-E 2 0 ≡ pos 2) × (Y frame-E calls-E 6 0 ≡ pos 22) × (held-digit frame-E one-step-E 1 0 ≡ pos 1) × (held-digit frame-E one-step-E 1 1 ≡ pos 1)
 unfolding frame-E calls-E one-step-E calls.run loaded advanced advance-checks steps-made steps one-step fresh breaks-limit beyond frame-checks field number bits values-from decode curve-entry matrix right-side first-row-from every weight total dot sum list-from stores stepped-digits stepped-residuals shifted next-digit next-residual select digit-size reading
-spelt-E = (refl, refl, refl)
+spelt-E = (refl, refl, refl, refl)
 
 -- ---- what the statement gives
 
 module _ (holds : (calls : List Call) → Accurate frame-E calls) where
-  -- the last step is the fifth: m is 4, and the scale 1
-  steps-E : after frame-E calls-E .k ≡ 5
+  -- the last step is the sixth: m is 4, and the scale 1
+  steps-E : after frame-E calls-E .k ≡ 6
   unfolding frame-E calls-E budgets field number bits values-from decode right-side every
   steps-E = omega (arith, holds calls-E .steps-made)
 
@@ -77,14 +78,20 @@ module _ (holds : (calls : List Call) → Accurate frame-E calls) where
   near-E =
       omega (arith, rw (spelt-E .0) at (holds calls-E .near 2 (omega (arith, steps-E)) values-E 16 (omega (arith, steps-E)) exact-E 0 (omega arith)))
 
+  -- the last reading, divided by r^6 and multiplied by r^s, is nearer than 1/16 to 11/16:
+  -- 16 × |11 × 64 - 16 × 22 × 2| < 16 × 64
+  count-E : 16 * natAbs (pos 11 *ℤ pos 64 -ℤ pos 16 *ℤ pos 22 *ℤ pos 2) < 1024
+  unfolding frame-E values-E field number bits values-from decode right-side every
+  count-E = rw (spelt-E .1) at (holds calls-E .digit-count steps-E values-E 16 (omega (arith, steps-E)) exact-E 0 (omega arith))
+
   -- in units of 1/32, after one step: 2 × 9 - (32 × 1 - 8 × 1) = z + 8 × 1
   identity-E : negsuc 5 ≡ at (after frame-E one-step-E .z) 0 +ℤ pos 8
   unfolding frame-E field number bits values-from decode curve-entry matrix right-side dot sum reading every
-  identity-E = rw (steps-one, spelt-E .1, spelt-E .2) at (holds one-step-E .identity 0 (omega arith))
+  identity-E = rw (steps-one, spelt-E .2, spelt-E .3) at (holds one-step-E .identity 0 (omega arith))
 
 -- the statement is proved
-pub numbers-E : (after frame-E calls-E .k ≡ 5) × (after frame-E calls-E .scale ≡ 1) × (natAbs (pos 11 *ℤ pos 4 -ℤ pos 16 *ℤ pos 2 *ℤ pos 2) ≤ 32)
-    × (negsuc 5 ≡ at (after frame-E one-step-E .z) 0 +ℤ pos 8)
+pub numbers-E : (after frame-E calls-E .k ≡ 6) × (after frame-E calls-E .scale ≡ 1) × (natAbs (pos 11 *ℤ pos 4 -ℤ pos 16 *ℤ pos 2 *ℤ pos 2) ≤ 32)
+    × (16 * natAbs (pos 11 *ℤ pos 64 -ℤ pos 16 *ℤ pos 22 *ℤ pos 2) < 1024) × (negsuc 5 ≡ at (after frame-E one-step-E .z) 0 +ℤ pos 8)
 numbers-E =
     let holds : (calls : List Call) → Accurate frame-E calls = accurate frame-E accepted-E in
-    (steps-E holds, scale-E holds, near-E holds, identity-E holds)
+    (steps-E holds, scale-E holds, near-E holds, count-E holds, identity-E holds)

@@ -1,9 +1,9 @@
--- `near` and `curve` of demand 3 on case A: from the statement alone, how near two of four digits come to
--- row 1's exact value, and what that value is.
+-- `near`, `digit-count` and `curve` of demand 3 on case A: from the statement alone, how near two of five
+-- digits come to row 1's exact value, and all five, and what that value is.
 use mathlib.Core.Path.{_≡_, refl}
 use mathlib.Core.Bool.{true}
 use mathlib.Core.List.{List}
-use Prim.Native.Nat.{ℕ, _<_, _≤_}
+use Prim.Native.Nat.{ℕ, _*_, _<_, _≤_}
 use native.Mathlib.Omega.{arith}
 use lib.IntN.{ℤ, pos, natAbs, _-ℤ_, _*ℤ_}
 use lib.Signed.{_<ℤ_}
@@ -24,7 +24,7 @@ unfolding frame-A field number bits
 polynomial-A = refl
 
 module _ (holds : (calls : List Call) → Accurate frame-A calls) where
-  -- row 1's value is 5/16, and the first two of its four digits spell a Y with |5 × 4 - 16 × Y| ≤ 16: the
+  -- row 1's value is 5/16, and the first two of its five digits spell a Y with |5 × 4 - 16 × Y| ≤ 16: the
   -- scale is 0, and r^s is 1
   pub near-A : natAbs (pos 5 *ℤ pos 4 -ℤ pos 16 *ℤ Y frame-A calls-A 2 0 *ℤ pos 1) ≤ 16
   unfolding frame-A values-A field number bits values-from decode right-side every
@@ -34,6 +34,11 @@ module _ (holds : (calls : List Call) → Accurate frame-A calls) where
   -- this Y is 1: |5 × 4 - 16 × 1| ≤ 16
   pub distance-A : natAbs (pos 5 *ℤ pos 4 -ℤ pos 16 *ℤ pos 1 *ℤ pos 1) ≤ 16
   distance-A = rw (spelt-A holds .0) at near-A
+
+  -- m is 4: the last reading 10 is nearer than 1/16 to 5/16, as 16 × |5 × 32 - 16 × 10 × 1| < 16 × 32
+  pub count-A : 16 * natAbs (pos 5 *ℤ pos 32 -ℤ pos 16 *ℤ pos 10 *ℤ pos 1) < 512
+  unfolding frame-A values-A field number bits values-from decode right-side every
+  count-A = rw (spelt-A holds .1) at (holds calls-A .digit-count (steps-A holds) values-A 16 (omega (arith, steps-A holds)) exact-A 0 (omega arith))
 
   -- row 1's exact value is 80/256, in every solution
   pub curve-A : (N : ℕ → ℤ) (D : ℕ) → ExactValues frame-A N D → pos 256 *ℤ N 0 ≡ pos 80 *ℤ pos D

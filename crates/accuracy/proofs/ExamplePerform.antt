@@ -58,21 +58,21 @@ third-A before rest part e = by-split before rest part (sym named-A ∙ e)
     by-split (c ∷ d ∷ f ∷ before) rest part e m a b = let z : readings (pos 70 ∷ pos 71 ∷ pos 72 ∷ []) ≡ f = cc in omega (arith, ap room-of z)
 
 module _ (r : Evaluated) (final : List ℤ) (p : Performed frame-A words-A given-A r final) where
-  -- after two steps the rows read 1 and 2, after four 5 and 8; the third word of the part of three is as it
+  -- after two steps the rows read 1 and 2, after five 10 and 16; the third word of the part of three is as it
   -- was, and so is the word past the parts
-  list-A : final ≡ pos 1 ∷ pos 2 ∷ pos 72 ∷ pos 5 ∷ pos 8 ∷ pos 75 ∷ []
+  list-A : final ≡ pos 1 ∷ pos 2 ∷ pos 72 ∷ pos 10 ∷ pos 16 ∷ pos 75 ∷ []
   unfolding words-A given-A calls-of parts-after room-of-all readings-list readings-checks frame-A calls.run loaded advanced advance-checks steps-made steps one-step fresh breaks-limit beyond frame-checks field number bits values-from decode curve-entry matrix right-side first-row-from every weight total dot sum list-from stores stepped-digits stepped-residuals shifted next-digit next-residual select digit-size reading
   list-A = p .accepted (omega (arith, accepted-A)) .1
 
-  -- by demand 3 the scale is 0 and four steps are made
-  answer-A : r ≡ record { refusal = 0; row = 0; scale = 0; made = 4 }
+  -- by demand 3 the scale is 0 and five steps are made
+  answer-A : r ≡ record { refusal = 0; row = 0; scale = 0; made = 5 }
   unfolding words-A given-A calls-of budgets frame-A field number bits values-from decode right-side every
   answer-A =
       p .accepted (omega (arith, accepted-A)) .0
       ∙ ap₂ (λ (c k : ℕ). record { refusal = 0; row = 0; scale = c; made = k }) (p .accurate (omega (arith, accepted-A)) .scale-held) (p .accurate (omega (arith, accepted-A)) .steps-made)
 
   -- and the fourth word is row 1's reading
-  fourth-word-A : at final 3 ≡ pos 5
+  fourth-word-A : at final 3 ≡ pos 10
   unfolding before-A room-of-all budgets frame-A field number bits values-from decode curve-entry matrix right-side dot sum digit residual shifted next-digit next-residual select digit-size reading every
   fourth-word-A = p .handed-out (omega (arith, accepted-A)) before-A [] (pos 73 ∷ pos 74 ∷ []) named-A (omega arith) 0 (omega arith)
 

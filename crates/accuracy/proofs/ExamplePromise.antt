@@ -1,9 +1,9 @@
 -- What `evaluate` promises, on cases D and A: from the promise alone, the answer and every word of the list.
 use mathlib.Core.Path.{_≡_, _∙_}
 use mathlib.Core.List.{List, [], _∷_}
-use Prim.Native.Nat.{ℕ}
+use Prim.Native.Nat.{ℕ, _*_, _<_}
 use native.Mathlib.Omega.{arith}
-use lib.IntN.{ℤ, pos}
+use lib.IntN.{ℤ, pos, natAbs, _-ℤ_, _*ℤ_}
 use Rattle.integers.specs.Sum.{weight, total}
 use Rattle.bitfields.specs.Layout.{field, number, bits, values-from}
 use Rattle.bitfields.specs.Twos.{decode}
@@ -15,7 +15,7 @@ use Rattle.accuracy.specs.Accuracy.{advance, readings, budgets, after}
 use Rattle.accuracy.specs.Promise.{Promise}
 use Rattle.accuracy.specs.declared.Evaluated.{Evaluated}
 use Rattle.evaluator.proofs.ExamplePastOrder.{frame-A}
-use Rattle.accuracy.proofs.ExampleA.{calls-A, accepted-A, readings-A, frame-D}
+use Rattle.accuracy.proofs.ExampleA.{calls-A, accepted-A, values-A, exact-A, readings-A, frame-D}
 
 -- ---- D: x 5 in A
 
@@ -27,14 +27,20 @@ promised-D list given r final p = p .refused (omega arith)
 -- ---- A, with the budgets 1, 0 and 9 and three words lent
 
 module _ (x y w : ℤ) (r : Evaluated) (final : List ℤ) (p : Promise frame-A (1 ∷ 0 ∷ 9 ∷ []) (x ∷ y ∷ w ∷ []) r final) where
-  -- it is not refused, four steps are made, and the list has 5, 8 and the third word as it was
-  pub promised-A : (r ≡ record { refusal = 0; row = 0; scale = 0; made = 4 }) × (final ≡ pos 5 ∷ pos 8 ∷ w ∷ [])
+  -- it is not refused, five steps are made, and the list has 10, 16 and the third word as it was
+  pub promised-A : (r ≡ record { refusal = 0; row = 0; scale = 0; made = 5 }) × (final ≡ pos 10 ∷ pos 16 ∷ w ∷ [])
   unfolding calls-A
   promised-A =
       let q = p .accepted (omega (arith, accepted-A)) in
       (q .0 ∙ rw (readings-A x y w .3, readings-A x y w .4, readings-A x y w .6), q .1 ∙ readings-A x y w .5)
 
-  -- and demand 3 holds of the calls: after them four steps are made
-  pub promised-steps-A : after frame-A (advance 1 ∷ advance 0 ∷ advance 9 ∷ readings (x ∷ y ∷ w ∷ []) ∷ []) .k ≡ 4
+  -- and demand 3 holds of the calls: after them five steps are made
+  pub promised-steps-A : after frame-A (advance 1 ∷ advance 0 ∷ advance 9 ∷ readings (x ∷ y ∷ w ∷ []) ∷ []) .k ≡ 5
   unfolding frame-A budgets field number bits values-from decode right-side every
   promised-steps-A = omega (arith, p .accurate (omega (arith, accepted-A)) .steps-made)
+
+  -- the budgets make all steps, and row 1's word is nearer than 1/16 to 5/16: 16 × |5 × 32 - 16 × 10 × 1| < 16 × 32
+  pub promised-count-A : 16 * natAbs (pos 5 *ℤ pos 32 -ℤ pos 16 *ℤ pos 10 *ℤ pos 1) < 512
+  unfolding frame-A values-A budgets field number bits values-from decode right-side every
+  promised-count-A =
+      rw (promised-A .1) at (p .digit-count (omega (arith, accepted-A)) (omega arith) (omega arith) values-A 16 (omega (arith, accepted-A)) exact-A 0 (omega arith))

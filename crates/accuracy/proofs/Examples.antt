@@ -2,7 +2,7 @@
 -- near the last reading lies to it; and of case A the numbers of every other part of the statement.
 use mathlib.Core.Path.{_≡_, refl, _∙_}
 use mathlib.Core.List.{List, [], _∷_, map}
-use Prim.Native.Nat.{ℕ, _<_, _≤_}
+use Prim.Native.Nat.{ℕ, _*_, _<_, _≤_}
 use native.Mathlib.Omega.{arith}
 use lib.IntN.{ℤ, pos, negsuc, natAbs, _+ℤ_, _-ℤ_, _*ℤ_}
 use Rattle.integers.specs.Flat.{at, list-from, stores}
@@ -28,7 +28,7 @@ use Rattle.accuracy.proofs.Demand3.{accurate}
 use Rattle.evaluator.proofs.ExamplePastOrder.{frame-A}
 use Rattle.accuracy.proofs.ExampleA.{calls-A, one-step-A, two-steps-A, lent-A, middle-A, end-A, accepted-A}
 use Rattle.accuracy.proofs.ExampleDigits.{steps-A, row-A, spelt-A, later-A}
-use Rattle.accuracy.proofs.ExampleNear.{near-A, distance-A, curve-A}
+use Rattle.accuracy.proofs.ExampleNear.{near-A, distance-A, count-A, curve-A}
 use Rattle.accuracy.proofs.ExampleReadings.{handed-A, nothing-A, one-word-A}
 use Rattle.accuracy.proofs.ExampleIdentity.{identity-one, identity-two}
 
@@ -38,14 +38,15 @@ use Rattle.accuracy.proofs.ExampleIdentity.{identity-one, identity-two}
 holds-A : (calls : List Call) → Accurate frame-A calls
 holds-A = accurate frame-A accepted-A
 
--- the steps made, row 1's digits, a digit past the steps made, how near two digits come, the words that
--- readings leave, and the identity in row 1
+-- the steps made, row 1's digits, a digit past the steps made, how near two digits come and how near
+-- all, the words that readings leave, and the identity in row 1
 pub numbers-A :
-    (after frame-A calls-A .k ≡ 4)
-    × (map (λ j. held-digit frame-A calls-A j 0) (1 ∷ 2 ∷ 3 ∷ 4 ∷ []) ≡ pos 0 ∷ pos 1 ∷ pos 1 ∷ negsuc 0 ∷ [])
+    (after frame-A calls-A .k ≡ 5)
+    × (map (λ j. held-digit frame-A calls-A j 0) (1 ∷ 2 ∷ 3 ∷ 4 ∷ 5 ∷ []) ≡ pos 0 ∷ pos 1 ∷ pos 1 ∷ negsuc 0 ∷ pos 0 ∷ [])
     × (held-digit frame-A two-steps-A 3 0 ≡ pos 0)
     × (natAbs (pos 5 *ℤ pos 4 -ℤ pos 16 *ℤ Y frame-A calls-A 2 0 *ℤ pos 1) ≤ 16)
     × (natAbs (pos 5 *ℤ pos 4 -ℤ pos 16 *ℤ pos 1 *ℤ pos 1) ≤ 16)
+    × (16 * natAbs (pos 5 *ℤ pos 32 -ℤ pos 16 *ℤ pos 10 *ℤ pos 1) < 512)
     × (at (readings-list (after frame-A middle-A) lent-A) 0 ≡ pos 1)
     × (at (readings-list (after frame-A middle-A) lent-A) 1 ≡ pos 2)
     × (readings-list (after frame-A two-steps-A) [] ≡ [])
@@ -53,17 +54,17 @@ pub numbers-A :
     × (pos 10 ≡ at (after frame-A one-step-A .z) 0 +ℤ pos 4)
     × (pos 4 ≡ at (after frame-A two-steps-A .z) 0 +ℤ pos 0)
 numbers-A =
-    (steps-A holds-A, row-A holds-A, later-A holds-A, near-A holds-A, distance-A holds-A, handed-A holds-A .0, handed-A holds-A .1, nothing-A holds-A, one-word-A holds-A, identity-one holds-A, identity-two holds-A)
+    (steps-A holds-A, row-A holds-A, later-A holds-A, near-A holds-A, distance-A holds-A, count-A holds-A, handed-A holds-A .0, handed-A holds-A .1, nothing-A holds-A, one-word-A holds-A, identity-one holds-A, identity-two holds-A)
 
--- row 1's exact value is 5/16, in every solution, and the reading 5 after 4 steps is that value exactly
-pub case-A : (N : ℕ → ℤ) (D : ℕ) → ExactValues frame-A N D → pos 16 *ℤ N 0 ≡ pos D *ℤ Y frame-A calls-A 4 0
-case-A N D exact = rw (spelt-A holds-A .1) (cancel {d = pos 16} (omega zarith) (first (N 0) (pos D) (curve-A holds-A N D exact)))
+-- row 1's exact value is 5/16, in every solution, and the reading 10 after 5 steps is that value exactly
+pub case-A : (N : ℕ → ℤ) (D : ℕ) → ExactValues frame-A N D → pos 32 *ℤ N 0 ≡ pos D *ℤ Y frame-A calls-A 5 0
+case-A N D exact = rw (spelt-A holds-A .1) (cancel {d = pos 8} (omega zarith) (first (N 0) (pos D) (curve-A holds-A N D exact)))
   where
-    first : (x d : ℤ) → pos 256 *ℤ x ≡ pos 80 *ℤ d → pos 16 *ℤ (pos 16 *ℤ x) ≡ pos 16 *ℤ (d *ℤ pos 5)
+    first : (x d : ℤ) → pos 256 *ℤ x ≡ pos 80 *ℤ d → pos 8 *ℤ (pos 32 *ℤ x) ≡ pos 8 *ℤ (d *ℤ pos 10)
     first x d e =
         solve (x ∷ []) (search polys depth 12) (search polys depth 12) tt ∙ e ∙ solve (d ∷ []) (search polys depth 12) (search polys depth 12) tt
 
--- ---- B: rational, x 2, p 8 and 0, q_1 4, over 16; five steps
+-- ---- B: rational, x 2, p 8 and 0, q_1 4, over 16; m 5, and so six steps
 
 unfoldable pub frame-B : List ℕ
 frame-B = 65 ∷ 16 ∷ 69 ∷ 8 ∷ 128 ∷ 4 ∷ []
@@ -75,19 +76,19 @@ accepted-B : frame-refusal frame-B ≡ 0
 unfolding frame-B frame-checks field number bits values-from decode curve-entry matrix right-side first-row-from every weight total
 accepted-B = refl
 
-steps-B : after frame-B calls-B .k ≡ 5
+steps-B : after frame-B calls-B .k ≡ 6
 unfolding frame-B calls-B calls.budgets field number bits values-from decode right-side every
 steps-B = accurate frame-B accepted-B calls-B .steps-made
 
-reading-B : Y frame-B calls-B 5 0 ≡ pos 15
+reading-B : Y frame-B calls-B 6 0 ≡ pos 31
 unfolding frame-B calls-B calls.run loaded advanced advance-checks steps-made steps one-step fresh breaks-limit beyond frame-checks field number bits values-from decode curve-entry matrix right-side first-row-from every weight total dot sum list-from stores stepped-digits stepped-residuals shifted next-digit next-residual select digit-size reading
 reading-B = refl
 
--- row 1's exact value is 16/33, in every solution, and the reading 15 after 5 steps, over 32, is within
--- 1/32 of it
-pub case-B : (N : ℕ → ℤ) (D : ℕ) → 0 < D → ExactValues frame-B N D → (pos 33 *ℤ N 0 ≡ pos 16 *ℤ pos D) × (natAbs (N 0 *ℤ pos 32 -ℤ pos D *ℤ pos 15) ≤ D)
+-- row 1's exact value is 16/33, in every solution; the reading 31 after 6 steps, over 64, is within 1/64 of it,
+-- and nearer than the 1/32 that m promises
+pub case-B : (N : ℕ → ℤ) (D : ℕ) → 0 < D → ExactValues frame-B N D → (pos 33 *ℤ N 0 ≡ pos 16 *ℤ pos D) × (natAbs (N 0 *ℤ pos 64 -ℤ pos D *ℤ pos 31) ≤ D) × (32 * natAbs (N 0 *ℤ pos 64 -ℤ pos D *ℤ pos 31) < D * 64)
 unfolding frame-B field number bits values-from decode numerator-value denominator-value sum right-side every
-case-B N D h exact = (cancel {d = pos 8} (omega zarith) (first (N 0) (pos D) (value N D exact)), near)
+case-B N D h exact = (cancel {d = pos 8} (omega zarith) (first (N 0) (pos D) (value N D exact)), near, count)
   where
     value : (N : ℕ → ℤ) (D : ℕ) → ExactValues frame-B N D → pos 264 *ℤ N 0 ≡ pos 128 *ℤ pos D
     value N D exact = accurate frame-B accepted-B calls-B .curve refl .value N D exact
@@ -96,5 +97,8 @@ case-B N D h exact = (cancel {d = pos 8} (omega zarith) (first (N 0) (pos D) (va
     first x d e =
         solve (x ∷ []) (search polys depth 12) (search polys depth 12) tt ∙ e ∙ solve (d ∷ []) (search polys depth 12) (search polys depth 12) tt
 
-    near : natAbs (N 0 *ℤ pos 32 -ℤ pos D *ℤ pos 15) ≤ D
-    near = omega (arith, rw (reading-B, *ℤ-one (pos D *ℤ pos 15)) at (accurate frame-B accepted-B calls-B .near 5 (omega (arith, steps-B)) N D (omega (arith, steps-B)) exact 0 (omega arith)))
+    count : 32 * natAbs (N 0 *ℤ pos 64 -ℤ pos D *ℤ pos 31) < D * 64
+    count = rw (reading-B, *ℤ-one (pos D *ℤ pos 31)) at (accurate frame-B accepted-B calls-B .digit-count steps-B N D h exact 0 (omega arith))
+
+    near : natAbs (N 0 *ℤ pos 64 -ℤ pos D *ℤ pos 31) ≤ D
+    near = omega (arith, rw (reading-B, *ℤ-one (pos D *ℤ pos 31)) at (accurate frame-B accepted-B calls-B .near 6 (omega (arith, steps-B)) N D (omega (arith, steps-B)) exact 0 (omega arith)))

@@ -40,7 +40,7 @@ module _ (frame : List ℕ) (ok : frame-refusal frame ≡ 0) where
   start-order = ap (λ (h : Header). h .n) start-header
 
   -- a readings call whose list has a word for each row is not refused
-  taken : (before : List Call) (room : ℕ) → order frame ≤ room → readings-refusal (after frame before) room ≡ 0
+  pub taken : (before : List Call) (room : ℕ) → order frame ≤ room → readings-refusal (after frame before) room ≡ 0
   taken before room h =
       let e : after frame before .header ≡ header-of frame = run-header (loaded frame .state) before ∙ start-header in
       readings-taken (after frame before) room (run-passes (loaded frame .state) before start-passes) (rw e h)

@@ -7,7 +7,7 @@ use native.Mathlib.Omega.{arith}
 use borrow.Author.Tests.{lt-ltb, le-ltb}
 use lib.IntN.{ℤ}
 use lib.ListN.{length, drop}
-use Rattle.integers.specs.Flat.{list-from}
+use Rattle.integers.specs.Flat.{at, list-from}
 use Rattle.job.specs.Header.{radix}
 use Rattle.job.proofs.Limits.{last-small}
 use Rattle.scale.specs.Scale.{job-scale}
@@ -33,10 +33,11 @@ use Rattle.stepping.proofs.Steps.{steps-header, steps-scale, steps-k}
 use Rattle.evaluator.proofs.Horner.{may-read-rows}
 use Rattle.stepping.proofs.Stepping.{fresh-whole}
 use Rattle.evaluator.proofs.Theorems.{accepted-load}
-use Rattle.accuracy.specs.Accuracy.{after, run, budgets, advances, readings}
+use Rattle.accuracy.specs.Accuracy.{order, radix-of, last-step-of, true-digit, DigitCount, after, run, budgets, advances, readings}
 use Rattle.accuracy.specs.Promise.{Promise}
-use Rattle.accuracy.proofs.Demand3.{accurate}
-use Rattle.accuracy.proofs.Runs.{run-is, allowed-most}
+use Rattle.accuracy.proofs.Demand3.{counted, accurate}
+use Rattle.accuracy.proofs.Performed.{taken}
+use Rattle.accuracy.proofs.Runs.{smaller-left, run-is, allowed-most}
 
 -- a state's digits and readings, by its header, its steps and its digits
 readable-of : (t : State) {h : Header} {k : ℕ} {ds : List ℤ} → t .header ≡ h → t .k ≡ k → ds ≡ t .digits → PassesLimits t → MayReadRows h k ds
@@ -46,6 +47,16 @@ readings-of : (t : State) {h : Header} {k : ℕ} {ds final : List ℤ} (given : 
     → final ≡ list-from 0 (h .n) (reading (radix (h .code)) (digits-of ds) k) ++ drop (h .n) given
     → final ≡ list-from 0 (t .header .n) (state-reading t) ++ drop (t .header .n) given
 readings-of t given eh ek ed el = rw (eh, ek, ← ed) el
+
+-- the words that readings leave once the budgets have made all steps are the last readings
+counted-words : (frame list : List ℕ) (given final : List ℤ) → frame-refusal frame ≡ 0 → final ≡ readings-list (after frame (advances list)) given
+    → last-step-of frame ≤ budgets (advances list) → order frame ≤ length given → DigitCount frame (at final)
+counted-words frame list given final ok el all room N D some exact i c = rw (word i c) (counted frame ok N D some exact i c)
+  where
+    word : (i : ℕ) → i < order frame → at final i ≡ reading (radix-of frame) (true-digit frame) (last-step-of frame) i
+    word i c =
+        rw (el, ← smaller-left (last-step-of frame) (budgets (advances list)) all)
+        (accurate frame ok (advances list ++ (readings given ∷ [])) .handed-out (advances list) [] given refl (taken frame ok (advances list) (length given) room) i c)
 
 module _ (frame list : List ℕ) (given : List ℤ) (l : Loaded) (e : l ≡ loaded frame) where
   refusal-is : l .refusal ≡ frame-refusal frame
@@ -59,6 +70,7 @@ module _ (frame list : List ℕ) (given : List ℤ) (l : Loaded) (e : l ≡ load
         refused = λ g. (rw e, refl);
         accepted = λ g. absurd (omega (arith, refusal-is));
         accurate = λ g. absurd (omega (arith, refusal-is));
+        digit-count = λ g. absurd (omega (arith, refusal-is));
       }
 
   pub promise-accepted : (t : State) (c : ℕ) (final : List ℤ) → l .refusal ≤ 0 → t ≡ run (l .state) (advances list) → c ≡ readings-refusal t (length given) → final ≡ readings-list t given
@@ -70,6 +82,7 @@ module _ (frame list : List ℕ) (given : List ℤ) (l : Loaded) (e : l ≡ load
         refused = λ g. absurd (omega arith);
         accepted = λ g. rw (← f) (rw ec, el);
         accurate = λ g. accurate frame ok (advances list ++ (readings given ∷ []));
+        digit-count = λ g. counted-words frame list given final ok (el ∙ ap (λ (s : State). readings-list s given) f);
       }
 
   -- an accepted frame's job, which load has made

@@ -43,8 +43,9 @@ budgets (readings out ∷ cs) = budgets cs
 abbrev pub advances : List ℕ → List Call
 advances budgets = map advance budgets
 
--- ---- a frame's job: the kind, the order n, the radix r, the largest digit p, the unit u = 2^f of its
--- numbers, the scale s, r^s, the unit u r^s of the residuals inside its states, the last step
+-- ---- a frame's job: the kind, the order n, the radix r, the largest digit p, the digits m that it asks for,
+-- the unit u = 2^f of its numbers, the scale s, r^s, the unit u r^s of the residuals inside its states, the
+-- last step
 
 abbrev pub kind : List ℕ → Kind
 kind frame = kind-of (header-of frame .kind)
@@ -57,6 +58,9 @@ radix-of frame = radix (header-of frame .code)
 
 abbrev pub largest-digit : List ℕ → ℕ
 largest-digit frame = header-of frame .p
+
+abbrev pub digits-asked : List ℕ → ℕ
+digits-asked frame = header-of frame .m
 
 abbrev pub unit-of : List ℕ → ℕ
 unit-of frame = unit (header-of frame)
@@ -98,6 +102,14 @@ true-digit frame = job-digit (header-of frame) (scale-of frame) (G frame) (b fra
 abbrev pub ExactValues : List ℕ → (ℕ → ℤ) → ℕ → Type 0
 ExactValues frame N D = Solves (order frame) (unit-of frame) D (G frame) (b frame) N
 
+-- The digit count: what "m digits" means (document 02, request 2). Readings y after the last step k, one a
+-- row, divided by r^k and multiplied by r^s, are nearer than r^-m to every exact value:
+-- r^m |N r^k - D y r^s| < D r^k
+abbrev pub DigitCount : List ℕ → (ℕ → ℤ) → Type 0
+DigitCount frame y = (N : ℕ → ℤ) (D : ℕ) → 0 < D → ExactValues frame N D → (i : ℕ) → i < order frame → let k = last-step-of frame in
+    radix-of frame ^ digits-asked frame * natAbs (N i *ℤ pos (radix-of frame ^ k) -ℤ pos D *ℤ y i *ℤ pos (factor-of frame))
+    < D * radix-of frame ^ k
+
 -- exact values exist, and in all of them row 1's N / D is p_0 + p_1 x + .. over 1 + q_1 x + .., which is
 -- above 0
 abbrev pub ExactCurve : List ℕ → Type 0
@@ -133,6 +145,8 @@ pub record Accurate (frame : List ℕ) (calls : List Call) : Type 0 where
   pub near : (k : ℕ) → k ≤ after frame calls .k → (N : ℕ → ℤ) (D : ℕ) → 0 < D → ExactValues frame N D → (i : ℕ) → i < order frame →
       (radix-of frame - 1) * natAbs (N i *ℤ pos (radix-of frame ^ k) -ℤ pos D *ℤ Y frame calls k i *ℤ pos (factor-of frame))
       ≤ largest-digit frame * D * factor-of frame
+  -- the digit count of the last readings, once all m + 1 + s steps are made
+  pub digit-count : after frame calls .k ≡ last-step-of frame → DigitCount frame (Y frame calls (last-step-of frame))
   -- row 1's exact value is that of the curve, for the kinds that are curves: polynomials and rational curves
   pub curve : has-value (kind frame) ≡ true → ExactCurve frame
   -- a readings call on the way hands out each row's Y at the steps made by then, and nothing if it is refused

@@ -1,12 +1,13 @@
 -- What `evaluate` of src/lib.rt ensures: its answer and every word of its list are the definitions', and
 -- demand 3 holds of the calls that it stands for.
 use mathlib.Core.{Path._≡_, List.List, List.[], List._∷_, List._++_}
-use Prim.Native.Nat.{ℕ, _<_}
+use Prim.Native.Nat.{ℕ, _<_, _≤_}
 use lib.{IntN.ℤ, ListN.length}
+use Rattle.integers.specs.Flat.{at}
 use Rattle.frame.specs.Frame.{frame-refusal, frame-row, frame-numbers}
 use Rattle.header.specs.Header.{header-of}
 use Rattle.evaluator.specs.Evaluator.{readings-refusal, readings-list}
-use Rattle.accuracy.specs.{Accuracy.after, Accuracy.Accurate, Accuracy.readings, Accuracy.advances, declared.Evaluated.Evaluated}
+use Rattle.accuracy.specs.{Accuracy.order, Accuracy.last-step-of, Accuracy.DigitCount, Accuracy.after, Accuracy.Accurate, Accuracy.readings, Accuracy.budgets, Accuracy.advances, declared.Evaluated.Evaluated}
 
 -- the answer to a refused frame: its number and row, and no step made
 abbrev pub refused-evaluated : List ℕ → Evaluated
@@ -18,12 +19,14 @@ refused-evaluated frame =
       made = 0;
     }
 
--- `given` is the list lent, `final` what is in it at the end
-pub record Promise (frame budgets : List ℕ) (given : List ℤ) (r : Evaluated) (final : List ℤ) : Type 0 where
+-- `list` are the budgets, `given` is the list lent, `final` what is in it at the end
+pub record Promise (frame list : List ℕ) (given : List ℤ) (r : Evaluated) (final : List ℤ) : Type 0 where
   -- a refused frame: nothing is handed out
   pub refused : 0 < frame-refusal frame → (r ≡ refused-evaluated frame) × (final ≡ given)
   -- an accepted one: the scale, the steps made, and the readings as the call of readings hands them out
-  pub accepted : frame-refusal frame ≡ 0 → let s = after frame (advances budgets) in
+  pub accepted : frame-refusal frame ≡ 0 → let s = after frame (advances list) in
       (r ≡ record { refusal = readings-refusal s (length given); row = 0; scale = s .scale; made = s .k }) × (final ≡ readings-list s given)
   -- and demand 3
-  pub accurate : frame-refusal frame ≡ 0 → Accurate frame (advances budgets ++ (readings given ∷ []))
+  pub accurate : frame-refusal frame ≡ 0 → Accurate frame (advances list ++ (readings given ∷ []))
+  -- where the budgets make all steps and there is a word for each row, the digit count of the words handed out
+  pub digit-count : frame-refusal frame ≡ 0 → last-step-of frame ≤ budgets (advances list) → order frame ≤ length given → DigitCount frame (at final)

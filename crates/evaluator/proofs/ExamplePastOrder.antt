@@ -43,7 +43,7 @@ lengths-A = record { residuals = refl; digits = refl }
 
 -- ---- what the definitions give of the job as load makes it
 
-after-A : (advanced job-A 3 .refusal ≡ 0) × (advanced job-A 3 .made ≡ 3) × (advanced (advanced job-A 3 .state) 9 .made ≡ 1)
+after-A : (advanced job-A 3 .refusal ≡ 0) × (advanced job-A 3 .made ≡ 3) × (advanced (advanced job-A 3 .state) 9 .made ≡ 2)
     × (advanced (advanced job-A 3 .state) 9 .state .header .n ≡ 2)
 unfolding job-A advanced advance-checks steps-made steps one-step fresh breaks-limit beyond curve-entry matrix right-side first-row-from every weight total dot sum list-from stores stepped-digits stepped-residuals shifted next-digit next-residual select digit-size
 after-A = (refl, refl, refl, refl)
@@ -57,17 +57,17 @@ last-A = (refl, refl, refl)
 -- ---- and from the statements, of the other
 
 module _ (below : AdvanceBelow) where
-  -- three steps, and then the fourth
+  -- three steps, and then the two that are left
   first-A : (advanced spoilt-A 3 .refusal ≡ 0) × (advanced spoilt-A 3 .made ≡ 3)
   first-A = let x = below job-A spoilt-A 3 alike-A in (sym (x .refusal) ∙ after-A .0, sym (x .made) ∙ after-A .1)
 
   alike-then : SameBelow (advanced job-A 3 .state) (advanced spoilt-A 3 .state)
   alike-then = below job-A spoilt-A 3 alike-A .state lengths-A
 
-  second-A : advanced (advanced spoilt-A 3 .state) 9 .made ≡ 1
+  second-A : advanced (advanced spoilt-A 3 .state) 9 .made ≡ 2
   second-A = sym (below _ _ 9 alike-then .made) ∙ after-A .2
 
-  -- whose digit of row 1 is -1
+  -- the digit of step 4 and row 1 is -1
   digit-A : entry (advanced (advanced spoilt-A 3 .state) 9 .state .digits) 3 0 ≡ negsuc 0
   digit-A =
       sym (below _ _ 9 alike-then .state (below job-A spoilt-A 3 alike-A .lengths lengths-A) .digits 3 0 (omega arith) (omega (arith, after-A .3))) ∙ last-A .0

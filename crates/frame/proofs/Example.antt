@@ -100,15 +100,15 @@ module _ (holds : FrameRowsGiven) where
   rules-A = not-true _ (holds header-A sent-D .heavy 0 .0 (rows-A .0) .here)
 
 module _ (holds : FrameScale) where
-  -- the scale of E is 1: twice 9 is at most 32, and 5 steps are at most 60
-  scale-E : (18 ≤ 32) × (5 ≤ 60)
+  -- the scale of E is 1: twice 9 is at most 32, and 6 steps are at most 60
+  scale-E : (18 ≤ 32) × (6 ≤ 60)
   unfolding bytes-E field number bits values-from decode right-side every
   scale-E = let x = holds bytes-E accepted-E in (x .smallest .fit 0 (omega arith), x .limits .last-most)
 
 module _ (holds : FrameRoom) where
   -- A's three numbers and six bytes are within the room that is always enough; the longest frame needs all
   room-A : (count header-A ≤ 272) × (frame-length header-A ≤ 1431)
-      × (frame-length (record { kind = 2; code = 0; p = 1; f = 40; n = 16; m = 60 }) ≡ 1431)
+      × (frame-length (record { kind = 2; code = 0; p = 1; f = 40; n = 16; m = 59 }) ≡ 1431)
   room-A = (holds .numbers limits-A, holds .bytes limits-A, holds .longest)
 
 -- the statements are proved

@@ -81,7 +81,7 @@ FrameWriterAccepted =
 pub record FrameRoom : Type 0 where
   pub numbers : {h : Header} → Limits h → count h ≤ most-numbers
   pub bytes : {h : Header} → Limits h → frame-length h ≤ most-bytes
-  pub longest : frame-length (record { kind = 2; code = 0; p = 1; f = 40; n = 16; m = 60 }) ≡ most-bytes
+  pub longest : frame-length (record { kind = 2; code = 0; p = 1; f = 40; n = 16; m = 59 }) ≡ most-bytes
 
 -- ---- demand 1: a refusal leaves every lent word and byte as it was, and gives zeros
 

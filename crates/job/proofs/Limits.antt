@@ -13,7 +13,7 @@ use Rattle.integers.proofs.Maximum.{le-or-lt}
 use Rattle.integers.proofs.Power.{pow-pow}
 use Rattle.job.specs.Refusal.{first-refusal, None, none, also}
 use Rattle.job.proofs.Refusal.{accepted-exactly, neither, fails, both-fail}
-use Rattle.job.specs.Header.{radix, digit-bits, unit, frame-code, trace-code, unknown-kind, read-checks-knowing, header-checks-knowing, read-checks, trace-read-checks, trace-header-checks, Limits, LimitsExactly}
+use Rattle.job.specs.Header.{radix, digit-bits, unit, frame-code, trace-code, steps-out-of-range, unknown-kind, read-checks-knowing, header-checks-knowing, read-checks, trace-read-checks, trace-header-checks, Limits, LimitsExactly}
 use Rattle.job.specs.Kind.{Kind, polynomial, rational, system, unused, kind-of, is-unused, count-of, most-numbers}
 use Rattle.job.specs.Rules.{last-step, trace-steps, most-scale, scaled-steps-out-of-range, scale-out-of-range, ScaleLimits, scale-factor, inner-unit}
 use Rattle.job.specs.declared.Header.{Header}
@@ -21,6 +21,10 @@ use Rattle.job.specs.declared.Header.{Header}
 -- digits that 60 bits hold are at most 60
 pub few-digits : (k c : ℕ) → k * (c + 1) ≤ 60 → k ≤ 60
 few-digits k c g = omega arith
+
+-- and an m past 60 is refused by 5 in every radix
+pub many-digits : (h : Header) → 60 < h .m → steps-out-of-range h ≡ true
+many-digits h l = rw (ne-eqb (h .m) 0 (λ e. omega arith)) (lt-ltb 60 ((h .m + 1) * digit-bits (h .code)) (omega arith))
 
 -- ---- the table of kinds: a number past its end, as the code tests it
 
@@ -54,7 +58,7 @@ module _ (h : Header) (known : Bool) (codes : known ≡ leb (h .code) 3) where
       let n = neither (ltb (h .n) 1) (ltb 16 (h .n)) t₁₄ in
       let p = neither (ltb (h .p) (radix (h .code) / 2)) (ltb (radix (h .code) - 1) (h .p)) t₃ in
       let f = neither (ltb (h .f) 4) (ltb 40 (h .f)) t₄ in
-      let m = neither (eqb (h .m) 0) (ltb 60 (h .m * digit-bits (h .code))) t₅ in
+      let m = neither (eqb (h .m) 0) (ltb 60 ((h .m + 1) * digit-bits (h .code))) t₅ in
       record {
         kind-most = k .0;
         code-most = k .1;
@@ -78,7 +82,7 @@ module _ (h : Header) (known : Bool) (codes : known ≡ leb (h .code) 3) where
       (also (both-fail _ _ (le-ltb (h .n) 1 (l .order-least)) (le-ltb 16 (h .n) (l .order-most)))
       (also (both-fail _ _ (le-ltb (h .p) (radix (h .code) / 2) (l .digit-least)) (le-ltb (radix (h .code) - 1) (h .p) (l .digit-most)))
       (also (both-fail _ _ (le-ltb (h .f) 4 (l .fraction-least)) (le-ltb 40 (h .f) (l .fraction-most)))
-      (also (both-fail _ _ (ne-eqb (h .m) 0 (λ e. omega (arith, l .steps-least))) (le-ltb 60 (h .m * digit-bits (h .code)) (l .steps-most))) none))))
+      (also (both-fail _ _ (ne-eqb (h .m) 0 (λ e. omega (arith, l .steps-least))) (le-ltb 60 ((h .m + 1) * digit-bits (h .code)) (l .steps-most))) none))))
 
   -- refusals 2, 14, 3, 4 and 5 all pass exactly when the limits hold
   limits-when : (first-refusal (header-checks-knowing known h) ≡ 0) ↔ Limits h
@@ -129,7 +133,7 @@ module _ (h : Header) where
     unit-least = pow-mono {i = 4} {j = h .f} (l .fraction-least)
 
     pub steps-small : h .m ≤ 60
-    steps-small = few-digits (h .m) (h .code) (l .steps-most)
+    steps-small = omega (arith, few-digits (h .m + 1) (h .code) (l .steps-most))
 
 -- ---- the limits of a scale
 

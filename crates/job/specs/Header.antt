@@ -51,9 +51,9 @@ fraction-out-of-range h = ltb (h .f) 4 || ltb 40 (h .f)
 abbrev pub past-60-bits : (code k : ℕ) → Bool
 past-60-bits code k = ltb 60 (k * digit-bits code)
 
--- 5: m is 0, or m × log2(r) above 60
+-- 5: m is 0, or (m + 1) × log2(r) above 60
 abbrev pub steps-out-of-range : Header → Bool
-steps-out-of-range h = eqb (h .m) 0 || past-60-bits (h .code) (h .m)
+steps-out-of-range h = eqb (h .m) 0 || past-60-bits (h .code) (h .m + 1)
 
 -- 14: n outside 1 to 16
 abbrev pub order-out-of-range : Header → Bool
@@ -103,7 +103,7 @@ pub record Limits (h : Header) : Type 0 where
   pub fraction-least : 4 ≤ h .f
   pub fraction-most : h .f ≤ 40
   pub steps-least : 1 ≤ h .m
-  pub steps-most : h .m * digit-bits (h .code) ≤ 60
+  pub steps-most : (h .m + 1) * digit-bits (h .code) ≤ 60
 
 -- They are just what refusals 2, 14, 3, 4 and 5 leave. Proved in proofs/Limits.antt, as `limits-exactly`.
 abbrev pub LimitsExactly : Type 0

@@ -6,9 +6,9 @@ use Prim.Native.Nat.{ℕ, zero, suc, _+_, _*_, _^_, _≤_}
 use lib.Dec.{ltb}
 use Rattle.job.specs.{Header.digit-bits, Header.radix, Header.unit, Header.past-60-bits, declared.Header.Header}
 
--- the last step of a job of scale s
+-- the last step of a job of scale s: one more than the m digits that its frame asks for, and s more
 abbrev pub last-step : Header → ℕ → ℕ
-last-step h s = h .m + s
+last-step h s = h .m + 1 + s
 
 -- the largest scale that a job may have: 2 in radix 2, and 1 in every other
 abbrev pub most-scale : (code : ℕ) → ℕ
@@ -20,7 +20,7 @@ most-scale (suc code) = 1
 abbrev pub trace-steps : Header → ℕ
 trace-steps h = last-step h 2
 
--- 15: (m + s) × log2(r) above 60
+-- 15: (m + 1 + s) × log2(r) above 60
 abbrev pub scaled-steps-out-of-range : Header → ℕ → Bool
 scaled-steps-out-of-range h s = past-60-bits (h .code) (last-step h s)
 

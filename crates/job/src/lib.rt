@@ -37,7 +37,7 @@ pub const STEPS: usize = 60;
 pub const NUMBERS: usize = ROWS * (ROWS + 1);
 
 // The header of a job frame, with the order n as a number from 1: kind (0 polynomial, 1 rational, 2 system),
-// radix code, largest digit p, fraction bits f, order n, steps m.
+// radix code, largest digit p, fraction bits f, order n, digits m.
 pub struct Header {
     pub kind: usize,
     pub code: usize,
@@ -109,12 +109,12 @@ pub fn past_60_bits(code: usize, k: usize) -> bool
     60 / (code + 1) < k
 }
 
-// The last step of a job of scale s.
+// The last step of a job of scale s: one more than its m digits, and s more.
 pub fn last_step(h: Header, s: usize) -> usize
     requires { ⌜ (h .m ≤ 60) × (s ≤ 2) ⌝ }
     ensures { λ r. ⌜ r ≡ last-step h s ⌝ }
 {
-    h.m + s
+    h.m + 1 + s
 }
 
 // The largest scale that a job may have.
@@ -132,7 +132,7 @@ pub fn trace_steps(h: Header) -> usize
     last_step(h, 2)
 }
 
-// 15: (m + s) × log2(r) above 60.
+// 15: (m + 1 + s) × log2(r) above 60.
 pub fn scaled_steps_out_of_range(h: Header, s: usize) -> bool
     requires { ⌜ Limits h × (s ≤ 2) ⌝ }
     ensures { λ r. ⌜ r ≡ scaled-steps-out-of-range h s ⌝ }
@@ -230,12 +230,15 @@ fn fraction_out_of_range(h: Header) -> bool
     h.f < 4 || 40 < h.f
 }
 
-// 5: m is 0, or m × log2(r) above 60.
+// 5: m is 0, or (m + 1) × log2(r) above 60. An m past 60 is looked at first, so that m + 1 cannot overflow.
 fn steps_out_of_range(h: Header) -> bool
     requires { ⌜ h .code ≤ 3 ⌝ }
     ensures { λ r. ⌜ r ≡ steps-out-of-range h ⌝ }
 {
-    h.m == 0 || past_60_bits(h.code, h.m)
+    if STEPS < h.m {
+        return true;
+    }
+    h.m == 0 || past_60_bits(h.code, h.m + 1)
 }
 
 // Refusals 3, 4 and 5.

@@ -28,8 +28,10 @@ text-A : frame-text (1 ∷ 16 ∷ 68 ∷ 16 ∷ 50 ∷ 0 ∷ [])
     ++ (51 ∷ 32 ∷ 49 ∷ 32 ∷ 48 ∷ 10 ∷ [])
     -- 4 -1 0
     ++ (52 ∷ 32 ∷ 45 ∷ 49 ∷ 32 ∷ 48 ∷ 10 ∷ [])
-    -- = 5 8
-    ++ (61 ∷ 32 ∷ 53 ∷ 32 ∷ 56 ∷ 10 ∷ [])
+    -- 5 0 0
+    ++ (53 ∷ 32 ∷ 48 ∷ 32 ∷ 48 ∷ 10 ∷ [])
+    -- = 10 16
+    ++ (61 ∷ 32 ∷ 49 ∷ 48 ∷ 32 ∷ 49 ∷ 54 ∷ 10 ∷ [])
 unfolding frame-text frame-checks field number bits values-from decode first-row-from every weight total curve-entry matrix right-side list-from fresh steps one-step stepped-digits stepped-residuals shifted next-digit next-residual dot sum select digit-size stores reading decimal-within signed-decimal line-end items-from step-lines
 text-A = refl
 

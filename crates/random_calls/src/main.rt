@@ -166,12 +166,12 @@ fn job_of_either(which: u64, budget: u64) -> State {
 fn changed_job(seed: u64) -> State {
     let a = next(seed);
     let b = next(a);
-    let mut s = job_of_either(a / 16 % 2, (b >> 32) % 6);
+    let mut s = job_of_either(a / 16 % 2, (b >> 32) % 7);
     let which = a % 12;
     let h = changed_header(s.header, which, b);
     s.header = h;
     if which == 4 {
-        s.k = small(b, 7);
+        s.k = small(b, 8);
     }
     if which == 10 {
         s.scale = small(b, 4);

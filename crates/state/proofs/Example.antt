@@ -41,7 +41,7 @@ digit-refused : (refusal-of (with-digit 1 0 (negsuc 0)) ≡ 0)
 unfolding breaks-limit fresh beyond first-row-from weight total list-from matrix curve-entry right-side
 digit-refused = (refl, refl, refl, refl)
 
--- the same with p_0 9, document 01's case E: its scale is 1, its z is the numbers sent, and five steps may be
+-- the same with p_0 9, document 01's case E: its scale is 1, its z is the numbers sent, and six steps may be
 -- made of it, and no more
 abbrev high : State
 high = fresh (record { kind = 0; code = 0; p = 1; f = 4; n = 2; m = 4 }) (pos 4 ∷ pos 9 ∷ pos 8 ∷ [])
@@ -49,7 +49,7 @@ high = fresh (record { kind = 0; code = 0; p = 1; f = 4; n = 2; m = 4 }) (pos 4 
 abbrev after : (scale k : ℕ) → State
 after scale k = state-of true (high .header) scale k (high .g) (high .z) (replicate digit-places (pos 0))
 
-starts-high : (high .scale ≡ 1) × (at (high .z) 0 ≡ pos 9) × (refusal-of (after 1 5) ≡ 0) × (refusal-of (after 1 6) ≡ 24)
+starts-high : (high .scale ≡ 1) × (at (high .z) 0 ≡ pos 9) × (refusal-of (after 1 6) ≡ 0) × (refusal-of (after 1 7) ≡ 24)
     × (refusal-of (after 0 0) ≡ 24) × (refusal-of (after 3 0) ≡ 24)
 unfolding breaks-limit fresh beyond first-row-from every weight total list-from matrix curve-entry right-side
 starts-high = (refl, refl, refl, refl, refl, refl)

@@ -58,12 +58,12 @@ recorded-A : (record-refusal state-A ≡ 0) × (trace-A ≡ write (record-fields
 unfolding record-A trace-A state-A fresh state-record bits number octets pack encode digit-list digit-array breaks-limit beyond every first-row-from weight total list-from matrix curve-entry right-side
 recorded-A = (refl, refl)
 
--- the two sides of 10: A, whose m is 4, may have 6 steps; with m 59 in radix 2 there may be 60, and with m 14
+-- the two sides of 10: A, whose m is 4, may have 7 steps; with m 59 in radix 2 there may be 60, and with m 14
 -- in radix 16 there may be 15, as 60 bits hold no more
 abbrev header-with : (code p m : ℕ) → Header
 header-with code p m = record { kind = 0; code = code; p = p; f = 4; n = 2; m = m }
 
-most-steps-A : (too-many-steps (record-A .header) 6 ≡ false) × (too-many-steps (record-A .header) 7 ≡ true)
+most-steps-A : (too-many-steps (record-A .header) 7 ≡ false) × (too-many-steps (record-A .header) 8 ≡ true)
 unfolding record-A
 most-steps-A = (refl, refl)
 
@@ -108,11 +108,11 @@ module _ (holds : StateTrace) where
 module _ (holds : TraceSizes) where
   -- after 0 steps A's trace has 4 bytes; with 16 rows and 60 steps one has 604; and three bytes are no trace
   sizes-A : (trace-length (record-A .header) 0 ≡ 4)
-      × (trace-length (record { kind = 0; code = 0; p = 1; f = 4; n = 16; m = 60 }) all-steps ≡ 604)
+      × (trace-length (record { kind = 0; code = 0; p = 1; f = 4; n = 16; m = 59 }) all-steps ≡ 604)
       × (trace-refusal (0x01 ∷ 0x10 ∷ 0x44 ∷ []) ≡ 0 → ⊥) × (length trace-A ≤ 604)
   sizes-A = (
     holds .shortest (record-A .header),
-    holds .longest (record { kind = 0; code = 0; p = 1; f = 4; n = 16; m = 60 }) refl,
+    holds .longest (record { kind = 0; code = 0; p = 1; f = 4; n = 16; m = 59 }) refl,
     λ e. omega (arith, holds .accepted (0x01 ∷ 0x10 ∷ 0x44 ∷ []) e .0),
     holds .accepted trace-A accepted-A .1,
   )
