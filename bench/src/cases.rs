@@ -8,11 +8,11 @@ use crate::plain::Fields;
 use crate::sides::Side;
 
 const A: [u8; 6] = [0x01, 0x10, 0x44, 0x10, 0x32, 0x00];
-const A_TRACE: [u8; 9] = [0x01, 0x10, 0x44, 0x10, 0x01, 0x08, 0x02, 0x0F, 0x80];
-const A_TEXT: &str = "0 2 1 4 2 4 0\n1 0 1\n2 1 0\n3 1 0\n4 -1 0\n= 5 8\n";
-const B_TEXT: &str = "1 2 1 4 2 5 0\n1 1 0\n2 0 -1\n3 0 1\n4 0 0\n5 -1 0\n= 15 -4\n";
-const C_TEXT: &str = "2 2 1 4 1 4 0\n1 1\n2 1\n3 -1\n4 1\n= 11\n";
-const E_TEXT: &str = "0 2 1 4 2 4 1\n1 1 1\n2 0 -1\n3 -1 0\n4 -1 0\n5 1 0\n= 11 8\n";
+const A_TRACE: [u8; 10] = [0x01, 0x10, 0x44, 0x14, 0x01, 0x08, 0x02, 0x0F, 0x80, 0x00];
+const A_TEXT: &str = "0 2 1 4 2 4 0\n1 0 1\n2 1 0\n3 1 0\n4 -1 0\n5 0 0\n= 10 16\n";
+const B_TEXT: &str = "1 2 1 4 2 5 0\n1 1 0\n2 0 -1\n3 0 1\n4 0 0\n5 -1 0\n6 1 1\n= 31 -7\n";
+const C_TEXT: &str = "2 2 1 4 1 4 0\n1 1\n2 1\n3 -1\n4 1\n5 -1\n= 21\n";
+const E_TEXT: &str = "0 2 1 4 2 4 1\n1 1 1\n2 0 -1\n3 -1 0\n4 -1 0\n5 1 0\n6 0 0\n= 22 16\n";
 
 /// A job with four fraction bits, as a frame.
 fn frame(kind: usize, r: usize, p: usize, n: usize, m: usize, numbers: &[i64]) -> Vec<u8> {
@@ -114,7 +114,7 @@ pub fn run<S: Side>() -> Result<usize, String> {
     case("A, text", frame_text::<S>(&A) == A_TEXT)?;
     let written = S::write_frame(&fields(0, 2, 1, 2, 4), &[4, 3, 8], &mut lent);
     case("A, written", lent[..written.count()] == A)?;
-    let traced = S::write_trace(&A, 4, &mut lent);
+    let traced = S::write_trace(&A, 5, &mut lent);
     case("A, trace", lent[..traced.count()] == A_TRACE)?;
 
     let b = frame(1, 2, 1, 2, 5, &[2, 8, 0, 4]);
@@ -146,10 +146,14 @@ pub fn run<S: Side>() -> Result<usize, String> {
     case("H, a byte more", refused(&longer) == (6, 0))?;
 
     let steps = |r, p, m| refused(&frame(0, r, p, 2, m, &[0, 3, 8]));
-    case("m 60 at r 2", steps(2, 1, 60) == (0, 0))?;
-    case("m 61 at r 2", steps(2, 1, 61) == (5, 0))?;
-    case("m 15 at r 16", steps(16, 8, 15) == (0, 0))?;
-    case("m 16 at r 16", steps(16, 8, 16) == (5, 0))?;
+    case("m 59 at r 2", steps(2, 1, 59) == (0, 0))?;
+    case("m 60 at r 2", steps(2, 1, 60) == (5, 0))?;
+    case("m 29 at r 4", steps(4, 2, 29) == (0, 0))?;
+    case("m 30 at r 4", steps(4, 2, 30) == (5, 0))?;
+    case("m 19 at r 8", steps(8, 4, 19) == (0, 0))?;
+    case("m 20 at r 8", steps(8, 4, 20) == (5, 0))?;
+    case("m 14 at r 16", steps(16, 8, 14) == (0, 0))?;
+    case("m 15 at r 16", steps(16, 8, 15) == (5, 0))?;
 
     // The scale goes by the largest right side, in whichever row it is.
     let sides = |r, b: [i64; 2]| frame(0, r, r - 1, 2, 4, &[0, b[0], b[1]]);
@@ -162,13 +166,13 @@ pub fn run<S: Side>() -> Result<usize, String> {
     case("-2 at r 16", loads(&sides(16, [-32, 0]), 1))?;
 
     let high = |r, m, p_0| refused(&frame(0, r, r - 1, 2, m, &[0, p_0, 8]));
-    case("m 59, s 1 at r 2", high(2, 59, 16) == (0, 0))?;
-    case("m 60, s 1 at r 2", high(2, 60, 9) == (15, 0))?;
-    case("m 58, s 2 at r 2", high(2, 58, -32) == (0, 0))?;
-    case("m 59, s 2 at r 2", high(2, 59, 17) == (15, 0))?;
-    case("m 14, s 1 at r 16", high(16, 14, 31) == (0, 0))?;
-    case("m 15, s 1 at r 16", high(16, 15, 9) == (15, 0))?;
-    let heavy = frame(0, 2, 1, 2, 60, &[5, 9, 8]);
+    case("m 58, s 1 at r 2", high(2, 58, 16) == (0, 0))?;
+    case("m 59, s 1 at r 2", high(2, 59, 9) == (15, 0))?;
+    case("m 57, s 2 at r 2", high(2, 57, -32) == (0, 0))?;
+    case("m 58, s 2 at r 2", high(2, 58, 17) == (15, 0))?;
+    case("m 13, s 1 at r 16", high(16, 13, 31) == (0, 0))?;
+    case("m 14, s 1 at r 16", high(16, 14, 9) == (15, 0))?;
+    let heavy = frame(0, 2, 1, 2, 59, &[5, 9, 8]);
     case("8 before 15", refused(&heavy) == (8, 1))?;
 
     // Traces of radix 2 and order 1, all digits 0.
@@ -177,8 +181,8 @@ pub fn run<S: Side>() -> Result<usize, String> {
         let answer = S::read_trace(&trace, &mut [0; 967]);
         (answer.refusal(), answer.count())
     };
-    case("k is m + 2", traced(4, 6) == (0, 13))?;
-    case("k is m + 3", traced(4, 7) == (10, 0))?;
+    case("k is m + 3", traced(4, 7) == (0, 14))?;
+    case("k is m + 4", traced(4, 8) == (10, 0))?;
     case("k 60 at r 2", traced(59, 60) == (0, 67))?;
     case("k 61 at r 2", traced(59, 61) == (10, 0))?;
     Ok(done)

@@ -306,7 +306,7 @@ fn random_trace(random: &mut Random) -> Result<Vec<u8>, String> {
     let mut fields = inputs::random_fields(random);
     let numbers = Light::Edges.numbers(&fields, random);
     let mut frame = inputs::pack_frame(&fields, &numbers);
-    // Fewer steps where m + s of them are too many.
+    // Fewer digits where m + 1 + s steps are too many.
     while Plain::check_frame(&frame).refusal() == 15 {
         fields.m -= 1;
         frame = inputs::pack_frame(&fields, &numbers);

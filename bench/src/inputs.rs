@@ -70,7 +70,7 @@ fn count(fields: &Fields) -> usize {
 pub fn random_fields(random: &mut Random) -> Fields {
     let code = random.below(4);
     let r = 2 << code;
-    let most_steps = 60 / (code + 1);
+    let most_digits = 60 / (code + 1) - 1;
     Fields {
         kind: random.below(3),
         code,
@@ -79,9 +79,9 @@ pub fn random_fields(random: &mut Random) -> Fields {
         n: random.between(1, 16),
         // Often the most, or so many fewer as a scale takes.
         m: if random.one_in(4) {
-            most_steps - random.pick(&[0, 0, 1, 2])
+            most_digits - random.pick(&[0, 0, 1, 2])
         } else {
-            random.between(1, most_steps)
+            random.between(1, most_digits)
         },
     }
 }
@@ -199,7 +199,7 @@ fn damage_field(fields: &mut Fields, wide: bool, random: &mut Random) {
         4 => (&mut fields.n, vec![1, 16, 0, 17, 18]),
         _ => (
             &mut fields.m,
-            vec![0, 1, most_steps, most_steps + 1, 63, 65],
+            vec![0, 1, most_steps - 1, most_steps, most_steps + 1, 63, 65],
         ),
     };
     *field = random.pick(&edges);
@@ -254,7 +254,7 @@ pub fn damage_trace(fields: &Fields, k: usize, digits: &[i64], random: &mut Rand
     let mut k = k;
     let mut digits = digits.to_vec();
     let (m, most) = (fields.m, 60 / (fields.code + 1));
-    let other_k = [0, k + 1, m, m + 1, m + 2, m + 3, most, most + 1, 63];
+    let other_k = [0, k + 1, m, m + 1, m + 2, m + 3, m + 4, most, most + 1, 63];
     match random.below(24) {
         // One digit at an edge.
         0 | 1 if !digits.is_empty() => {

@@ -208,14 +208,14 @@ fn line(what: &str, timings: &[Timing]) {
 /// Measures everything and prints the tables.
 pub fn run(effort: &Effort, random: &mut Random) {
     let sorts = [
-        ("polynomial n 5 r 2 m 46", sort(0, 2, 5, 46)),
-        ("rational n 16 r 16 m 15", sort(1, 16, 16, 15)),
-        ("system n 16 r 2 m 60", sort(2, 2, 16, 60)),
+        ("polynomial n 5 r 2 m 45", sort(0, 2, 5, 45)),
+        ("rational n 16 r 16 m 14", sort(1, 16, 16, 14)),
+        ("system n 16 r 2 m 59", sort(2, 2, 16, 59)),
     ];
-    // As many steps as those of scale 0: the last is m + s.
+    // As many steps as those of scale 0: the last is m + 1 + s.
     let high_sorts = [
-        ("polynomial n 5 r 2 m 45 s 1", sort(0, 2, 5, 45)),
-        ("rational n 16 r 16 m 14 s 1", sort(1, 16, 16, 14)),
+        ("polynomial n 5 r 2 m 44 s 1", sort(0, 2, 5, 44)),
+        ("rational n 16 r 16 m 13 s 1", sort(1, 16, 16, 13)),
     ];
     let inputs = sorts.map(|(name, fields)| (name, frames(fields, 0, random)));
     let high = high_sorts.map(|(name, fields)| (name, frames(fields, 1, random)));
@@ -253,8 +253,8 @@ pub fn run(effort: &Effort, random: &mut Random) {
     }
 
     heading("growth of a whole job, system r 2");
-    let with_n = [1, 2, 4, 8, 16].map(|n| (n, 60));
-    let with_m = [10, 20, 40, 60].map(|m| (16, m));
+    let with_n = [1, 2, 4, 8, 16].map(|n| (n, 59));
+    let with_m = [9, 19, 39, 59].map(|m| (16, m));
     for (n, m) in with_n.into_iter().chain(with_m) {
         let frames = frames(sort(2, 2, n, m), 0, random);
         time(&format!("n {n:>2}, m {m}"), &mut sides!(job, &frames));

@@ -49,15 +49,17 @@ enum em_kind {
     EM_SYSTEM = 2
 };
 
-/* In the words below r is the radix, n the order, p the largest digit, f the fraction bits, m the steps that
+/* In the words below r is the radix, n the order, p the largest digit, f the fraction bits, m the digits that
  * a frame asks for, s its scale, and k the steps made.
  *
  * The right sides of a frame are the p_0 to p_(n-1) of a curve, or the b_i of a system. Its scale is the
  * smallest s, 0 or more, for which every right side is at most r^s / 2 in absolute value: 0 where all are
  * within 1/2, and never above 2 where r is 2, or above 1 where r is more. The job works on the right sides
- * divided by r^s and has m + s steps. A caller multiplies by r^s again:
+ * divided by r^s and has m + 1 + s steps. A caller multiplies by r^s again:
  *
  *     value = reading / r^k * r^s
+ *
+ * What "m digits" means: after the last step this value is nearer than r^-m to the exact one.
  */
 enum em_refusal {
     EM_ACCEPTED = 0,
@@ -65,35 +67,35 @@ enum em_refusal {
     EM_REFUSED_KIND = 2,    /* kind 3; from em_write_frame a kind above 2 or a radix code above 3 */
     EM_REFUSED_P = 3,       /* p outside r/2 to r - 1 */
     EM_REFUSED_F = 4,       /* f outside 4 to 40 */
-    EM_REFUSED_M = 5,       /* m is 0, or m * log2(r) is above 60 */
+    EM_REFUSED_M = 5,       /* m is 0, or (m + 1) * log2(r) is above 60 */
     EM_REFUSED_LENGTH = 6,  /* a length other than the fields demand */
     EM_REFUSED_FILL = 7,    /* a filling bit after the last number or digit is 1 */
     EM_REFUSED_HEAVY = 8,   /* a row is too heavy: its |entries| of I - A add up to more than
                                (2p - r + 1) / (2rp) */
-    EM_REFUSED_K = 10,      /* a trace: k is above m + 2, or k * log2(r) is above 60 */
+    EM_REFUSED_K = 10,      /* a trace: k is above m + 3, or k * log2(r) is above 60 */
     EM_REFUSED_DIGIT = 11,  /* a trace: a digit is above p in absolute value */
     EM_REFUSED_COUNT = 12,  /* em_write_frame: another count of numbers than kind and n demand */
     EM_REFUSED_NUMBER = 13, /* em_write_frame: a number does not fit f + 2 bits */
     EM_REFUSED_N = 14,      /* em_write_frame: n outside 1 to 16 */
-    EM_REFUSED_STEPS = 15,  /* (m + s) * log2(r) is above 60 */
+    EM_REFUSED_STEPS = 15,  /* (m + 1 + s) * log2(r) is above 60 */
     EM_REFUSED_ROOM = 23    /* lent memory too short for what is to be written */
 };
 
 /* Loads a frame and lets it go. count: how many numbers it holds. scale: s. Refused by 1 to 8, 15. */
 uint64_t em_check_frame(const uint8_t *frame, size_t length);
 
-/* Loads a frame, makes as many of its m + s steps as the budget allows, and writes n readings, row by row.
- * count: the steps made, k. scale: s. The reading Y of a row stands for Y / r^k * r^s: in every solution of
- * all rows this row's value is at most p * r^s / ((r - 1) * r^k) away from it. Row 1 of a curve is the
- * curve's value at x. Refused by 1 to 8, 15, 23. A budget of 0 is not refused by 22: k is 0, and so is each
- * reading. */
+/* Loads a frame, makes as many of its m + 1 + s steps as the budget allows, and writes n readings, row by
+ * row. count: the steps made, k. scale: s. The reading Y of a row stands for Y / r^k * r^s: in every solution
+ * of all rows this row's value is at most p * r^s / ((r - 1) * r^k) away from it, and after all steps less
+ * than r^-m. Row 1 of a curve is the curve's value at x. Refused by 1 to 8, 15, 23. A budget of 0 is not
+ * refused by 22: k is 0, and so is each reading. */
 uint64_t em_evaluate(const uint8_t *frame, size_t length, uint64_t budget, int64_t *readings, size_t room);
 
 /* Writes a frame. count: its bytes.
  *
  * kind   0 to 2, as em_kind        f   4 to 40
  * code   0 to 3 for r 2, 4, 8, 16  n   1 to 16
- * p      r/2 to r - 1              m   1 or more, with (m + s) * log2(r) at most 60
+ * p      r/2 to r - 1              m   1 or more, with (m + 1 + s) * log2(r) at most 60
  *
  * Each number is -2^(f + 1) to 2^(f + 1) - 1 and stands for itself divided by 2^f. Their order:
  * polynomial   x, p_0 to p_(n-1)                          n + 1 numbers
@@ -104,7 +106,7 @@ uint64_t em_evaluate(const uint8_t *frame, size_t length, uint64_t budget, int64
 uint64_t em_write_frame(size_t kind, size_t code, size_t p, size_t f, size_t n, size_t m,
                         const int64_t *numbers, size_t length, uint8_t *out, size_t room);
 
-/* Loads a frame, makes as many of its m + s steps as the budget allows, and writes its trace. count: the
+/* Loads a frame, makes as many of its m + 1 + s steps as the budget allows, and writes its trace. count: the
  * trace's bytes. Refused by 1 to 8, 15, 23. A budget of 0 is not refused by 22: the trace after 0 steps, of 4
  * bytes, is written. */
 uint64_t em_write_trace(const uint8_t *frame, size_t length, uint64_t budget, uint8_t *out, size_t room);

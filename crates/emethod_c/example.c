@@ -1,6 +1,6 @@
 /* The polynomial 9/16 + 8/16 x at x = 4/16: packed, evaluated in all steps of radix 2, its values printed.
- * 9/16 is above 1/2, so the scale is 1, and there are m + 1 = 5 steps. The readings are 11 and 8, the values
- * `0.6875 0.5`: row 1 is the polynomial's, 11 / 2^5 * 2^1 = 11/16. */
+ * 9/16 is above 1/2, so the scale is 1, and there are m + 1 + 1 = 6 steps. The readings are 22 and 16, the
+ * values `0.6875 0.5`: row 1 is the polynomial's, 22 / 2^6 * 2^1 = 11/16. */
 #include <stdio.h>
 
 #include "emethod.h"

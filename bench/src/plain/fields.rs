@@ -66,7 +66,7 @@ impl Fields {
         if self.f < 4 || self.f > 40 {
             return Err(Refusal::FractionBits);
         }
-        if self.m < 1 || self.m > self.most_steps() {
+        if self.m < 1 || self.m >= self.most_steps() {
             return Err(Refusal::Steps);
         }
         Ok(())
@@ -105,9 +105,15 @@ impl Fields {
         60 / self.radix_bits()
     }
 
+    /// The last step of a job of this scale: one more than the m digits asked for, and one more for each of
+    /// the scale.
+    pub fn last_step(&self, scale: usize) -> usize {
+        self.m + 1 + scale
+    }
+
     /// The most steps that a trace may hold. It does not tell the scale of its job, which is at most 2.
     pub fn trace_steps(&self) -> usize {
-        self.most_steps().min(self.m + 2)
+        self.most_steps().min(self.last_step(2))
     }
 
     /// The bits of each number.

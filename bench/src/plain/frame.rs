@@ -54,7 +54,7 @@ impl System {
         if let Some(row) = rows.position(|row| weight(row) > largest) {
             return Err(Refusal::HeavyRow(row + 1));
         }
-        if fields.m + self.scale > fields.most_steps() {
+        if fields.last_step(self.scale) > fields.most_steps() {
             return Err(Refusal::ScaledSteps);
         }
         Ok(())

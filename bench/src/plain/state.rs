@@ -32,7 +32,7 @@ impl State {
     pub fn load(frame: &[u8]) -> Result<State, Refusal> {
         let (fields, _, System { g, b, scale }) = parse(frame)?;
         Ok(State::Job(Job {
-            digits: Vec::with_capacity((fields.m + scale) * fields.n),
+            digits: Vec::with_capacity(fields.last_step(scale) * fields.n),
             fields,
             scale,
             g,
@@ -101,7 +101,7 @@ impl Job {
     }
 
     fn last_step(&self) -> usize {
-        self.fields.m + self.scale
+        self.fields.last_step(self.scale)
     }
 
     /// The fraction bits of the residuals.
@@ -204,13 +204,13 @@ mod tests {
         assert_eq!(list, [0, 0, 7]);
         assert_eq!(state.advance(0), Err(Refusal::NoBudget));
         assert_eq!(state.advance(3), Ok(3));
-        assert_eq!(state.advance(3), Ok(1));
+        assert_eq!(state.advance(3), Ok(2));
         assert_eq!(state.advance(3), Err(Refusal::AllStepsMade));
         assert_eq!(state.advance(0), Err(Refusal::NoBudget));
         assert_eq!(state.readings(&mut list[..1]), Err(Refusal::NoRoom));
         assert_eq!(list, [0, 0, 7]);
         assert_eq!(state.readings(&mut list), Ok(0));
-        assert_eq!(list, [5, 8, 7]);
+        assert_eq!(list, [10, 16, 7]);
     }
 
     #[test]
@@ -219,13 +219,13 @@ mod tests {
         let mut list = [7; 3];
         assert_eq!(state.job().unwrap().z, [9, 8]);
         assert_eq!(state.advance(4), Ok(4));
-        assert_eq!(state.advance(4), Ok(1));
+        assert_eq!(state.advance(4), Ok(2));
         assert_eq!(state.advance(4), Err(Refusal::AllStepsMade));
-        // 11 / 2^5 × 2^1 is 11/16, the value itself.
+        // 22 / 2^6 × 2^1 is 11/16, the value itself.
         assert_eq!(state.readings(&mut list), Ok(1));
-        assert_eq!(list, [11, 8, 7]);
+        assert_eq!(list, [22, 16, 7]);
         let record = state.record().unwrap();
-        assert_eq!((record.fields.m, record.k), (4, 5));
+        assert_eq!((record.fields.m, record.k), (4, 6));
     }
 
     #[test]
@@ -233,8 +233,8 @@ mod tests {
         let mut state = State::load(&C).unwrap();
         assert_eq!(state.advance(1), Ok(1));
         assert_eq!(state.job().unwrap().z, [0]);
-        assert_eq!(state.advance(u64::MAX), Ok(3));
-        assert_eq!(state.job().unwrap().digits, [1, 1, -1, 1]);
+        assert_eq!(state.advance(u64::MAX), Ok(4));
+        assert_eq!(state.job().unwrap().digits, [1, 1, -1, 1, -1]);
     }
 
     #[test]
@@ -246,11 +246,11 @@ mod tests {
             |job| job.fields.p = 2,
             |job| job.fields.f = 3,
             |job| job.fields.n = 0,
-            |job| job.fields.m = 61,
+            |job| job.fields.m = 60,
             |job| job.scale = 3,
             |job| job.scale = usize::MAX,
-            |job| (job.fields.m, job.scale) = (60, 1),
-            |job| job.digits = vec![0; 10],
+            |job| (job.fields.m, job.scale) = (59, 1),
+            |job| job.digits = vec![0; 12],
             |job| job.g[1] = 5,
             |job| job.g[1] = i64::MIN,
             |job| job.g.fill(i64::MAX),
@@ -279,9 +279,9 @@ mod tests {
         };
         assert!(passes(|job| (job.z[1], job.scale) = (-16, 1)));
         assert!(passes(|job| (job.z[1], job.scale) = (32, 2)));
-        assert!(passes(|job| (job.fields.m, job.scale) = (58, 2)));
-        assert!(passes(|job| (job.digits, job.scale) = (vec![0; 12], 2)));
-        assert!(!passes(|job| (job.digits, job.scale) = (vec![0; 14], 2)));
+        assert!(passes(|job| (job.fields.m, job.scale) = (57, 2)));
+        assert!(passes(|job| (job.digits, job.scale) = (vec![0; 14], 2)));
+        assert!(!passes(|job| (job.digits, job.scale) = (vec![0; 16], 2)));
         // In radix 4, with p 2 and rows of weight 0.
         fn in_radix_4(job: &mut Job, scale: usize) {
             (job.fields.code, job.fields.p, job.scale) = (1, 2, scale);

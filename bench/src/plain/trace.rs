@@ -114,7 +114,7 @@ mod tests {
         assert_eq!(write_trace(&record, &mut lent), Err(Refusal::NoRoom));
         record.digits[1] = -2;
         assert_eq!(write_trace(&record, &mut lent), Err(Refusal::Digit));
-        record.k = 7;
+        record.k = 8;
         assert_eq!(write_trace(&record, &mut lent), Err(Refusal::StepsMade));
         record.fields.m = 0;
         assert_eq!(write_trace(&record, &mut lent), Err(Refusal::Steps));
@@ -148,9 +148,9 @@ mod tests {
             };
             fields.trace_steps()
         };
-        // m + 2, and no more than 60 / log2(r).
-        assert_eq!([4, 58, 59, 60].map(|m| most(0, m)), [6, 60, 60, 60]);
-        assert_eq!([1, 27, 28, 29].map(|m| most(1, m)), [3, 29, 30, 30]);
-        assert_eq!([12, 13, 14, 15].map(|m| most(3, m)), [14, 15, 15, 15]);
+        // m + 3, and no more than 60 / log2(r).
+        assert_eq!([4, 57, 58, 59].map(|m| most(0, m)), [7, 60, 60, 60]);
+        assert_eq!([1, 26, 27, 28].map(|m| most(1, m)), [4, 29, 30, 30]);
+        assert_eq!([11, 12, 13, 14].map(|m| most(3, m)), [14, 15, 15, 15]);
     }
 }
