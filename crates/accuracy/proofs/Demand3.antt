@@ -67,7 +67,7 @@ near-scaled p D c N R Y q l =
     turned : (D c Y : ℤ) → D *ℤ Y *ℤ c ≡ D *ℤ c *ℤ Y
     turned D c Y = solve (D ∷ c ∷ Y ∷ []) (search polys depth 12) (search polys depth 12) tt
 
--- after m + 1 + s steps a distance of at most p D r^s over r - 1 is below D r^k over r^m, as p is at most r - 1
+-- after m + 1 + s steps a distance of at most p D r^s over r - 1 is below D r^k over r^m, as p is below r
 nearer : (r p m s D x : ℕ) → 2 ≤ r → p ≤ r - 1 → 0 < D → (r - 1) * x ≤ p * D * r ^ s → r ^ m * x < D * r ^ (m + 1 + s)
 nearer r p m s D x two small some near =
     let c : 1 ≤ r ^ s = one-le-pow s r (omega arith) in

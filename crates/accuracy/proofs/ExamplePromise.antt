@@ -39,7 +39,8 @@ module _ (x y w : ℤ) (r : Evaluated) (final : List ℤ) (p : Promise frame-A (
   unfolding frame-A budgets field number bits values-from decode right-side every
   promised-steps-A = omega (arith, p .accurate (omega (arith, accepted-A)) .steps-made)
 
-  -- the budgets make all steps, and row 1's word is nearer than 1/16 to 5/16: 16 × |5 × 32 - 16 × 10 × 1| < 16 × 32
+  -- the budgets make all steps, and row 1's word is nearer than 1/16 to 5/16:
+  -- 16 × |5 × 32 - 16 × 10 × 1| < 16 × 32
   pub promised-count-A : 16 * natAbs (pos 5 *ℤ pos 32 -ℤ pos 16 *ℤ pos 10 *ℤ pos 1) < 512
   unfolding frame-A values-A budgets field number bits values-from decode right-side every
   promised-count-A =

@@ -84,8 +84,8 @@ reading-B : Y frame-B calls-B 6 0 ≡ pos 31
 unfolding frame-B calls-B calls.run loaded advanced advance-checks steps-made steps one-step fresh breaks-limit beyond frame-checks field number bits values-from decode curve-entry matrix right-side first-row-from every weight total dot sum list-from stores stepped-digits stepped-residuals shifted next-digit next-residual select digit-size reading
 reading-B = refl
 
--- row 1's exact value is 16/33, in every solution; the reading 31 after 6 steps, over 64, is within 1/64 of it,
--- and nearer than the 1/32 that m promises
+-- row 1's exact value is 16/33, in every solution; the reading 31 after 6 steps, over 64, is within 1/64 of
+-- it, and nearer than the 1/32 that m promises
 pub case-B : (N : ℕ → ℤ) (D : ℕ) → 0 < D → ExactValues frame-B N D → (pos 33 *ℤ N 0 ≡ pos 16 *ℤ pos D) × (natAbs (N 0 *ℤ pos 64 -ℤ pos D *ℤ pos 31) ≤ D) × (32 * natAbs (N 0 *ℤ pos 64 -ℤ pos D *ℤ pos 31) < D * 64)
 unfolding frame-B field number bits values-from decode numerator-value denominator-value sum right-side every
 case-B N D h exact = (cancel {d = pos 8} (omega zarith) (first (N 0) (pos D) (value N D exact)), near, count)

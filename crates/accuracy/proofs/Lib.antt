@@ -11,4 +11,5 @@ pub mod ExampleIdentity
 pub mod ExamplePromise
 pub mod Examples
 pub mod ExampleE
+pub mod ExampleHalf
 pub mod ExamplePerform

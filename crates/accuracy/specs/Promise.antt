@@ -28,5 +28,5 @@ pub record Promise (frame list : List ℕ) (given : List ℤ) (r : Evaluated) (f
       (r ≡ record { refusal = readings-refusal s (length given); row = 0; scale = s .scale; made = s .k }) × (final ≡ readings-list s given)
   -- and demand 3
   pub accurate : frame-refusal frame ≡ 0 → Accurate frame (advances list ++ (readings given ∷ []))
-  -- where the budgets make all steps and there is a word for each row, the digit count of the words handed out
+  -- where the budgets make all steps and there is a word for each row, the digit count of these words
   pub digit-count : frame-refusal frame ≡ 0 → last-step-of frame ≤ budgets (advances list) → order frame ≤ length given → DigitCount frame (at final)

@@ -70,8 +70,8 @@ pub record ValidRecord (t : Record) : Type 0 where
 abbrev pub trace-too-short : List ℕ → Bool
 trace-too-short s = ltb (length s) 4
 
--- 10: k above m + 3, or k × log2(r) above 60. A trace does not tell its job's scale, so k is held to the last
--- step of a job of scale 2, and to 60 bits.
+-- 10: k above m + 3, or k × log2(r) above 60. A trace does not tell its job's scale, so k is held to the
+-- last step of a job of scale 2, and to 60 bits.
 abbrev pub too-many-steps : Header → ℕ → Bool
 too-many-steps h k = ltb (trace-steps h) k || past-60-bits (h .code) k
 
