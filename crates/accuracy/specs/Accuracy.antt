@@ -102,14 +102,6 @@ true-digit frame = job-digit (header-of frame) (scale-of frame) (G frame) (b fra
 abbrev pub ExactValues : List ℕ → (ℕ → ℤ) → ℕ → Type 0
 ExactValues frame N D = Solves (order frame) (unit-of frame) D (G frame) (b frame) N
 
--- The digit count: what "m digits" means (document 02, request 2). Readings y after the last step k, one a
--- row, divided by r^k and multiplied by r^s, are nearer than r^-m to every exact value:
--- r^m |N r^k - D y r^s| < D r^k
-abbrev pub DigitCount : List ℕ → (ℕ → ℤ) → Type 0
-DigitCount frame y = (N : ℕ → ℤ) (D : ℕ) → 0 < D → ExactValues frame N D → (i : ℕ) → i < order frame → let k = last-step-of frame in
-    radix-of frame ^ digits-asked frame * natAbs (N i *ℤ pos (radix-of frame ^ k) -ℤ pos D *ℤ y i *ℤ pos (factor-of frame))
-    < D * radix-of frame ^ k
-
 -- exact values exist, and in all of them row 1's N / D is p_0 + p_1 x + .. over 1 + q_1 x + .., which is
 -- above 0
 abbrev pub ExactCurve : List ℕ → Type 0
@@ -117,6 +109,15 @@ ExactCurve frame =
     CurveValue (order frame) (unit-of frame) (G frame) (b frame)
     (value-over (kind frame) (order frame) (unit-of frame) (frame-numbers frame))
     (value-under (kind frame) (order frame) (unit-of frame) (frame-numbers frame))
+
+-- ---- the digit count: what "m digits" means (document 02, request 2)
+
+-- Readings y after the last step k, one a row, have it where divided by r^k and multiplied by r^s they are
+-- nearer than r^-m to every exact value: r^m |N r^k - D y r^s| < D r^k
+abbrev pub DigitCount : List ℕ → (ℕ → ℤ) → Type 0
+DigitCount frame y = (N : ℕ → ℤ) (D : ℕ) → 0 < D → ExactValues frame N D → (i : ℕ) → i < order frame → let k = last-step-of frame in
+    radix-of frame ^ digits-asked frame * natAbs (N i *ℤ pos (radix-of frame ^ k) -ℤ pos D *ℤ y i *ℤ pos (factor-of frame))
+    < D * radix-of frame ^ k
 
 -- ---- the state after the calls
 

@@ -27,7 +27,7 @@ use Rattle.trace.proofs.Valid.{record-taken}
 use Rattle.trace.proofs.Theorems.{trace-read-write, trace-read-taken, trace-write-read, trimmed-made, state-trace, trace-sizes}
 use Rattle.trace.proofs.ExamplePastOrder.{record-A, trace-A, spoilt-record-A}
 
--- a state of A's job with the digits of its four steps; the residuals, in no trace, are those of a load
+-- a state of A's job with the digits of its first four steps; the residuals, in no trace, are those of a load
 unfoldable pub state-A : State
 state-A =
     let s = fresh (record-A .header) (pos 4 ∷ pos 3 ∷ pos 8 ∷ []) in

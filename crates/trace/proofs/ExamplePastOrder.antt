@@ -28,7 +28,7 @@ use Rattle.trace.specs.declared.Recorded.{Recorded}
 use Rattle.trace.specs.declared.TraceWritten.{TraceWritten}
 use Rattle.trace.proofs.PastOrder.{record-zeros, read-zeros, record-below, write-below}
 
--- ---- the record and the trace of case A after its 4 steps: row 1 has 0, 1, 1, -1, and row 2 has 1, 0, 0, 0
+-- ---- the record and the trace of case A after 4 of its 5 steps: row 1 has 0, 1, 1, -1, row 2 has 1, 0, 0, 0
 
 unfoldable pub record-A : Record
 record-A =
@@ -101,7 +101,7 @@ module _ (below : RecordBelow) where
   other-zero zeros =
       zeros other-A .digits 0 2 (omega arith) (omega arith) (inr (omega (arith, recorded-A .2, ap (λ (r : Recorded). r .trace .header .n) same-record)))
 
--- the record of A's trace, which has four steps, has 0 in step 5
+-- the record of this trace, which has four steps, has 0 in step 5
 steps-A : trace-reader-answer trace-A .trace .k ≡ 4
 unfolding trace-A bits number field values-from decode digit-array list-from first-row-from beyond trace-checks trace-record trace-reader-answer
 steps-A = refl
