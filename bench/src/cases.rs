@@ -7,12 +7,20 @@ use crate::inputs::{pack_frame, pack_trace};
 use crate::plain::Fields;
 use crate::sides::Side;
 
+/// The frame of case A, which has a heavy row.
 const A: [u8; 6] = [0x01, 0x10, 0x44, 0x10, 0x32, 0x00];
-const A_TRACE: [u8; 10] = [0x01, 0x10, 0x44, 0x14, 0x01, 0x08, 0x02, 0x0F, 0x80, 0x00];
-const A_TEXT: &str = "0 2 1 4 2 4 0\n1 0 1\n2 1 0\n3 1 0\n4 -1 0\n5 0 0\n= 10 16\n";
-const B_TEXT: &str = "1 2 1 4 2 5 0\n1 1 0\n2 0 -1\n3 0 1\n4 0 0\n5 -1 0\n6 1 1\n= 31 -7\n";
-const C_TEXT: &str = "2 2 1 4 1 4 0\n1 1\n2 1\n3 -1\n4 1\n5 -1\n= 21\n";
-const E_TEXT: &str = "0 2 1 4 2 4 1\n1 1 1\n2 0 -1\n3 -1 0\n4 -1 0\n5 1 0\n6 0 0\n= 22 16\n";
+
+// Jobs with light rows in place of those of A, B, C and E: A and E with x 3, B with q_1 3, C with a 13.
+const A_3: [u8; 6] = [0x01, 0x10, 0x44, 0x0C, 0x32, 0x00];
+const A_3_TRACE: [u8; 10] = [0x01, 0x10, 0x44, 0x14, 0x01, 0x08, 0x00, 0x00, 0x83, 0xE0];
+const A_3_TEXT: &str = "0 2 1 4 2 4 0\n1 0 1\n2 1 0\n3 0 0\n4 1 0\n5 -1 0\n= 9 16\n";
+const B_3_TEXT: &str = "1 2 1 4 2 5 0\n1 1 0\n2 0 0\n3 0 -1\n4 0 1\n5 0 -1\n6 -1 0\n= 31 -6\n";
+const C_13_TEXT: &str = "2 2 1 4 1 4 0\n1 1\n2 0\n3 1\n4 0\n5 0\n= 20\n";
+const E_3_TEXT: &str = "0 2 1 4 2 4 1\n1 1 1\n2 -1 -1\n3 1 0\n4 -1 0\n5 1 0\n6 -1 0\n= 21 16\n";
+
+// Order 1 with seven fraction bits: the first w is just above -1/2, and just below 1/2.
+const ABOVE_TEXT: &str = "0 2 1 7 1 4 0\n1 -1\n2 1\n3 0\n4 0\n5 0\n= -8\n";
+const BELOW_TEXT: &str = "0 2 1 7 1 4 0\n1 0\n2 1\n3 0\n4 0\n5 0\n= 8\n";
 
 /// A job with four fraction bits, as a frame.
 fn frame(kind: usize, r: usize, p: usize, n: usize, m: usize, numbers: &[i64]) -> Vec<u8> {
@@ -88,8 +96,8 @@ fn push_line(text: &mut String, items: &[i64]) {
     text.push('\n');
 }
 
-/// The cases A to H and the edges of m, of the scale and of a trace's steps, by one side. Gives how many
-/// there are.
+/// The cases A to H with the frames that load in place of heavy ones, and the edges of the estimate, of m, of
+/// the scale and of a trace's steps, by one side. Gives how many there are.
 pub fn run<S: Side>() -> Result<usize, String> {
     let mut done = 0;
     let mut case = |name: &str, right: bool| {
@@ -111,39 +119,59 @@ pub fn run<S: Side>() -> Result<usize, String> {
     let mut lent = [0; 1431];
 
     case("A, frame", curve(4, 3) == A)?;
-    case("A, text", frame_text::<S>(&A) == A_TEXT)?;
+    case("A, refused", refused(&A) == (8, 1))?;
+    case("A, text", frame_text::<S>(&A) == "refused 8 1\n")?;
     let written = S::write_frame(&fields(0, 2, 1, 2, 4), &[4, 3, 8], &mut lent);
-    case("A, written", lent[..written.count()] == A)?;
-    let traced = S::write_trace(&A, 5, &mut lent);
-    case("A, trace", lent[..traced.count()] == A_TRACE)?;
+    let unwritten = (written.refusal(), written.row(), written.count());
+    case("A, not written", unwritten == (8, 1, 0))?;
+    case("A with x 3, frame", curve(3, 3) == A_3)?;
+    case("A with x 3, text", frame_text::<S>(&A_3) == A_3_TEXT)?;
+    let written = S::write_frame(&fields(0, 2, 1, 2, 4), &[3, 3, 8], &mut lent);
+    case("A with x 3, written", lent[..written.count()] == A_3)?;
+    let traced = S::write_trace(&A_3, 5, &mut lent);
+    case("A with x 3, trace", lent[..traced.count()] == A_3_TRACE)?;
 
-    let b = frame(1, 2, 1, 2, 5, &[2, 8, 0, 4]);
-    case("B", frame_text::<S>(&b) == B_TEXT)?;
-    let c = frame(2, 2, 1, 1, 4, &[12, 8]);
-    case("C", frame_text::<S>(&c) == C_TEXT)?;
+    let b = |q_1| frame(1, 2, 1, 2, 5, &[2, 8, 0, q_1]);
+    case("B, refused", refused(&b(4)) == (8, 2))?;
+    case("B with q_1 3, text", frame_text::<S>(&b(3)) == B_3_TEXT)?;
+    let c = |a| frame(2, 2, 1, 1, 4, &[a, 8]);
+    case("C, refused", refused(&c(12)) == (8, 1))?;
+    case("C with a 13, text", frame_text::<S>(&c(13)) == C_13_TEXT)?;
 
     case("D", refused(&curve(5, 3)) == (8, 1))?;
-    case("E, 9", frame_text::<S>(&curve(4, 9)) == E_TEXT)?;
-    case("E, 8", loads(&curve(4, 8), 0))?;
-    case("E, -8", loads(&curve(4, -8), 0))?;
-    case("E, -9", loads(&curve(4, -9), 1))?;
+    case("E, refused", refused(&curve(4, 9)) == (8, 1))?;
+    let e = curve(3, 9);
+    case("E with x 3, text", frame_text::<S>(&e) == E_3_TEXT)?;
+    case("E with x 3, 8", loads(&curve(3, 8), 0))?;
+    case("E with x 3, -8", loads(&curve(3, -8), 0))?;
+    case("E with x 3, -9", loads(&curve(3, -9), 1))?;
 
     let four = |p, x| frame(0, 4, p, 2, 4, &[x, 3, 8]);
-    case("F, p 2, x 1", refused(&four(2, 1)) == (0, 0))?;
-    case("F, p 2, x 2", refused(&four(2, 2)) == (8, 1))?;
-    case("F, p 3, x 2", refused(&four(3, 2)) == (0, 0))?;
-    case("F, p 3, x 3", refused(&four(3, 3)) == (8, 1))?;
+    case("F, p 2, x 0", refused(&four(2, 0)) == (0, 0))?;
+    case("F, p 2, x 1", refused(&four(2, 1)) == (8, 1))?;
+    case("F, p 3, x 1", refused(&four(3, 1)) == (0, 0))?;
+    case("F, p 3, x 2", refused(&four(3, 2)) == (8, 1))?;
 
     case("G", refused(&frame(0, 2, 1, 1, 4, &[31, 8])) == (0, 0))?;
 
     case("H, both", refused(&curve(5, 9)) == (8, 1))?;
     case("H, empty", refused(&[]) == (1, 0))?;
-    let mut filled = A;
+    let mut filled = A_3;
     filled[5] = 0x01;
     case("H, last byte 01", refused(&filled) == (7, 0))?;
-    let mut longer = A.to_vec();
+    let mut longer = A_3.to_vec();
     longer.push(0);
     case("H, a byte more", refused(&longer) == (6, 0))?;
+
+    // With four fraction bits an estimate is w itself. Here w is -31/64 and 31/64: cut down to five bits, the
+    // first is -1/2, a tie, and the second 15/32.
+    let seven = Fields {
+        f: 7,
+        ..fields(0, 2, 1, 1, 4)
+    };
+    let near_half = |p_0| frame_text::<S>(&pack_frame(&seven, &[0, p_0]));
+    case("w just above -1/2", near_half(-31) == ABOVE_TEXT)?;
+    case("w just below 1/2", near_half(31) == BELOW_TEXT)?;
 
     let steps = |r, p, m| refused(&frame(0, r, p, 2, m, &[0, 3, 8]));
     case("m 59 at r 2", steps(2, 1, 59) == (0, 0))?;

@@ -102,7 +102,7 @@ impl Light {
         let r = 2i64 << fields.code;
         let p = fields.p as i64;
         let unit = 1i64 << fields.f;
-        let limit = unit * (2 * p - (r - 1)) / (2 * r * p);
+        let limit = unit * (32 * p - 17 * (r - 1)) / (32 * r * p);
         let largest = self.largest_side(unit, random);
         // The number 2 itself does not fit, but -2 does.
         let right_side =

@@ -71,7 +71,7 @@ enum em_refusal {
     EM_REFUSED_LENGTH = 6,  /* a length other than the fields demand */
     EM_REFUSED_FILL = 7,    /* a filling bit after the last number or digit is 1 */
     EM_REFUSED_HEAVY = 8,   /* a row is too heavy: its |entries| of I - A add up to more than
-                               (2p - r + 1) / (2rp) */
+                               (32p - 17(r - 1)) / (32rp) */
     EM_REFUSED_K = 10,      /* a trace: k is above m + 3, or k * log2(r) is above 60 */
     EM_REFUSED_DIGIT = 11,  /* a trace: a digit is above p in absolute value */
     EM_REFUSED_COUNT = 12,  /* em_write_frame: another count of numbers than kind and n demand */

@@ -1,13 +1,13 @@
-/* The polynomial 9/16 + 8/16 x at x = 4/16: packed, evaluated in all steps of radix 2, its values printed.
- * 9/16 is above 1/2, so the scale is 1, and there are m + 1 + 1 = 6 steps. The readings are 22 and 16, the
- * values `0.6875 0.5`: row 1 is the polynomial's, 22 / 2^6 * 2^1 = 11/16. */
+/* The polynomial 9/16 + 8/16 x at x = 3/16: packed, evaluated in all steps of radix 2, its values printed.
+ * 9/16 is above 1/2, so the scale is 1, and there are m + 1 + 1 = 6 steps. The readings are 21 and 16, the
+ * values `0.65625 0.5`: row 1 is the polynomial's, 21 / 2^6 * 2^1 = 21/32. */
 #include <stdio.h>
 
 #include "emethod.h"
 
 int main(void)
 {
-    const int64_t numbers[] = {4, 9, 8}; /* x, p_0 and p_1 over 2^f = 16 */
+    const int64_t numbers[] = {3, 9, 8}; /* x, p_0 and p_1 over 2^f = 16 */
     uint8_t frame[EM_FRAME_BYTES];
     int64_t readings[EM_READINGS];
     uint64_t packed, done;

@@ -138,9 +138,9 @@ impl Fields {
         HEADER_BYTES + (6 + 5 * k * self.n).div_ceil(8)
     }
 
-    /// The largest weight S of a row with 2 × r × p × S at most 2^f × (2p - (r - 1)).
+    /// The largest weight S of a row with 32 × r × p × S at most 2^f × (32p - 17 × (r - 1)).
     pub fn largest_weight(&self) -> i64 {
         let (r, p) = (self.radix(), self.p as i64);
-        self.unit() * (2 * p - (r - 1)) / (2 * r * p)
+        self.unit() * (32 * p - 17 * (r - 1)) / (32 * r * p)
     }
 }

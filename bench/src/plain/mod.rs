@@ -1,5 +1,5 @@
-//! Document 01, with request 1 of document 02, in plain Rust: what a programmer writes who has the documents
-//! and no proofs.
+//! Document 01, with requests 1 to 3 of document 02, in plain Rust: what a programmer writes who has the
+//! documents and no proofs.
 //!
 //! It shares nothing with the proved library, so that an error would have to be made twice to stay unseen.
 

@@ -128,11 +128,12 @@ impl Job {
             let weight: u128 = row.iter().map(|g| u128::from(g.unsigned_abs())).sum();
             weight <= largest
         };
-        let half = 1 << (self.bits() - 1);
+        // 17/32 of the unit.
+        let bound = (17 << self.bits()) / 32;
         let digit = self.digits.iter().map(|d| d.unsigned_abs()).max();
         sizes
             && self.g.chunks_exact(n).all(light)
-            && self.z.iter().all(|z| z.unsigned_abs() <= half)
+            && self.z.iter().all(|z| z.unsigned_abs() <= bound)
             && usize::from(digit.unwrap_or(0)) <= p
     }
 
@@ -163,23 +164,25 @@ impl Job {
     }
 }
 
-/// The digit for w, which has so many fraction bits: up to p the nearest whole number, a tie going away from
-/// zero, and above p cut.
+/// The digit for w, which has so many fraction bits, from an estimate of it: w cut down to five fraction
+/// bits, or w itself where it has fewer. Up to p it is the whole number nearest to the estimate, a tie going
+/// away from zero, and above p the estimate cut.
 fn choose(w: i64, p: i64, bits: usize) -> i64 {
-    let size = w.abs();
-    let half = 1 << (bits - 1);
-    let rounding = if size <= p << bits { half } else { 0 };
-    w.signum() * ((size + rounding) >> bits)
+    let estimate = (w << 5) >> bits;
+    let size = estimate.abs();
+    let rounding = if size <= p << 5 { 1 << 4 } else { 0 };
+    estimate.signum() * ((size + rounding) >> 5)
 }
 
 #[cfg(test)]
 mod tests {
     use super::*;
 
-    /// Case A of document 01, and cases C and E.
-    const A: [u8; 6] = [0x01, 0x10, 0x44, 0x10, 0x32, 0x00];
-    const C: [u8; 5] = [0x81, 0x10, 0x04, 0x30, 0x80];
-    const E: [u8; 6] = [0x01, 0x10, 0x44, 0x10, 0x92, 0x00];
+    /// Case A of document 01 with x 3, case C with a 13 and case E with x 3. Row 1 of each weighs 3, the most
+    /// that is light.
+    const A: [u8; 6] = [0x01, 0x10, 0x44, 0x0C, 0x32, 0x00];
+    const C: [u8; 5] = [0x81, 0x10, 0x04, 0x34, 0x80];
+    const E: [u8; 6] = [0x01, 0x10, 0x44, 0x0C, 0x92, 0x00];
 
     fn loaded(frame: &[u8]) -> Job {
         match State::load(frame) {
@@ -210,7 +213,7 @@ mod tests {
         assert_eq!(state.readings(&mut list[..1]), Err(Refusal::NoRoom));
         assert_eq!(list, [0, 0, 7]);
         assert_eq!(state.readings(&mut list), Ok(0));
-        assert_eq!(list, [10, 16, 7]);
+        assert_eq!(list, [9, 16, 7]);
     }
 
     #[test]
@@ -221,9 +224,9 @@ mod tests {
         assert_eq!(state.advance(4), Ok(4));
         assert_eq!(state.advance(4), Ok(2));
         assert_eq!(state.advance(4), Err(Refusal::AllStepsMade));
-        // 22 / 2^6 × 2^1 is 11/16, the value itself.
+        // 21 / 2^6 × 2^1 is 21/32, the value itself.
         assert_eq!(state.readings(&mut list), Ok(1));
-        assert_eq!(list, [22, 16, 7]);
+        assert_eq!(list, [21, 16, 7]);
         let record = state.record().unwrap();
         assert_eq!((record.fields.m, record.k), (4, 6));
     }
@@ -234,13 +237,24 @@ mod tests {
         assert_eq!(state.advance(1), Ok(1));
         assert_eq!(state.job().unwrap().z, [0]);
         assert_eq!(state.advance(u64::MAX), Ok(4));
-        assert_eq!(state.job().unwrap().digits, [1, 1, -1, 1, -1]);
+        assert_eq!(state.job().unwrap().digits, [1, 0, 1, 0, 0]);
+    }
+
+    #[test]
+    fn choice_by_the_estimate() {
+        let digits = |p, bits, w: [i64; 4]| w.map(|w| choose(w, p, bits));
+        // With four bits the estimate is w itself.
+        assert_eq!(digits(1, 4, [7, 8, -7, -8]), [0, 1, 0, -1]);
+        // With six, -31/64 is cut down to -1/2, and 31/64 to 15/32.
+        assert_eq!(digits(1, 6, [31, 32, -30, -31]), [0, 1, 0, -1]);
+        // Above p, up to 17/32.
+        assert_eq!(digits(1, 6, [64, 98, -65, -98]), [1, 1, -1, -1]);
     }
 
     #[test]
     fn broken_limits() {
         type Break = fn(&mut Job);
-        let breaks: [Break; 16] = [
+        let breaks: [Break; 17] = [
             |job| job.fields.kind = 3,
             |job| job.fields.code = 4,
             |job| job.fields.p = 2,
@@ -251,11 +265,12 @@ mod tests {
             |job| job.scale = usize::MAX,
             |job| (job.fields.m, job.scale) = (59, 1),
             |job| job.digits = vec![0; 12],
-            |job| job.g[1] = 5,
+            |job| job.g[1] = 4,
             |job| job.g[1] = i64::MIN,
             |job| job.g.fill(i64::MAX),
             |job| job.z[1] = -9,
-            |job| (job.z[1], job.scale) = (-17, 1),
+            |job| (job.z[1], job.scale) = (-18, 1),
+            |job| (job.z[1], job.scale) = (35, 2),
             |job| job.digits = vec![0, -2],
         ];
         for (at, spoil) in breaks.iter().enumerate() {
@@ -277,8 +292,10 @@ mod tests {
             spoil(&mut job);
             State::Job(job).job().is_ok()
         };
-        assert!(passes(|job| (job.z[1], job.scale) = (-16, 1)));
-        assert!(passes(|job| (job.z[1], job.scale) = (32, 2)));
+        // 17/32 of the unit, which is 16, 32 and 64.
+        assert!(passes(|job| job.z[1] = -8));
+        assert!(passes(|job| (job.z[1], job.scale) = (-17, 1)));
+        assert!(passes(|job| (job.z[1], job.scale) = (34, 2)));
         assert!(passes(|job| (job.fields.m, job.scale) = (57, 2)));
         assert!(passes(|job| (job.digits, job.scale) = (vec![0; 14], 2)));
         assert!(!passes(|job| (job.digits, job.scale) = (vec![0; 16], 2)));

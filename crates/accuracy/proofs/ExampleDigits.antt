@@ -1,5 +1,5 @@
--- `steps-made`, `digits` and `later-digits` of demand 3 on case A: from the statement alone, the steps made
--- and the digits held.
+-- `steps-made`, `digits` and `later-digits` of demand 3 on case A with an x of 3: from the statement alone,
+-- the steps made and the digits held.
 use mathlib.Core.Path.{_≡_, refl, ap}
 use mathlib.Core.List.{List, [], _∷_, map}
 use Prim.Native.Nat.{ℕ, _<_, _≤_}
@@ -36,8 +36,8 @@ module _ (holds : (calls : List Call) → Accurate frame-A calls) where
   unfolding frame-A field number bits
   held-A calls k e j i a b c = holds calls .digits j i (omega arith) (omega arith) (omega arith)
 
-  -- after five steps the digits of row 1 are 0, 1, 1, -1, 0
-  pub row-A : map (λ j. held-digit frame-A calls-A j 0) (1 ∷ 2 ∷ 3 ∷ 4 ∷ 5 ∷ []) ≡ pos 0 ∷ pos 1 ∷ pos 1 ∷ negsuc 0 ∷ pos 0 ∷ []
+  -- after five steps the digits of row 1 are 0, 1, 0, 1, -1
+  pub row-A : map (λ j. held-digit frame-A calls-A j 0) (1 ∷ 2 ∷ 3 ∷ 4 ∷ 5 ∷ []) ≡ pos 0 ∷ pos 1 ∷ pos 0 ∷ pos 1 ∷ negsuc 0 ∷ []
   row-A =
       rw (
         held-A calls-A 5 steps-A 1 0 (omega arith) (omega arith) (omega arith),
@@ -48,15 +48,15 @@ module _ (holds : (calls : List Call) → Accurate frame-A calls) where
       )
       (digits-A .0)
 
-  -- which spell 1 after two of the steps and 10 after all five
-  pub spelt-A : (Y frame-A calls-A 2 0 ≡ pos 1) × (Y frame-A calls-A 5 0 ≡ pos 10)
+  -- which spell 1 after two of the steps and 9 after all five
+  pub spelt-A : (Y frame-A calls-A 2 0 ≡ pos 1) × (Y frame-A calls-A 5 0 ≡ pos 9)
   unfolding frame-A reading field number bits
   spelt-A = (rw (held 0, held 1) refl, rw (held 0, held 1, held 2, held 3, held 4) refl)
     where
-      held : (t : ℕ) → at (map (λ j. held-digit frame-A calls-A j 0) (1 ∷ 2 ∷ 3 ∷ 4 ∷ 5 ∷ [])) t ≡ at (pos 0 ∷ pos 1 ∷ pos 1 ∷ negsuc 0 ∷ pos 0 ∷ []) t
+      held : (t : ℕ) → at (map (λ j. held-digit frame-A calls-A j 0) (1 ∷ 2 ∷ 3 ∷ 4 ∷ 5 ∷ [])) t ≡ at (pos 0 ∷ pos 1 ∷ pos 0 ∷ pos 1 ∷ negsuc 0 ∷ []) t
       held t = ap (λ (row : List ℤ). at row t) row-A
 
-  -- after two steps the digit of step 3 and row 1 is 0
-  pub later-A : held-digit frame-A two-steps-A 3 0 ≡ pos 0
+  -- after two steps the digit of step 4 and row 1, which that step makes 1, is 0
+  pub later-A : held-digit frame-A two-steps-A 4 0 ≡ pos 0
   unfolding frame-A field number bits
-  later-A = holds two-steps-A .later-digits 3 0 (omega (arith, steps-two)) (omega arith) (omega arith)
+  later-A = holds two-steps-A .later-digits 4 0 (omega (arith, steps-two)) (omega arith) (omega arith)

@@ -14,7 +14,7 @@ use Rattle.system.specs.System.{curve-entry, matrix, right-side}
 use Rattle.scale.specs.Scale.{every}
 use Rattle.frame.specs.Frame.{frame-checks, frame-refusal}
 use Rattle.stepping.specs.Steps.{stepped-digits, stepped-residuals, steps, one-step}
-use Rattle.recurrence.specs.Recurrence.{shifted, next-digit, next-residual, reading, select, digit-size}
+use Rattle.recurrence.specs.Recurrence.{shifted, next-digit, next-residual, reading, select, rounded, estimate, cut-down, digit-size}
 use Rattle.state.specs.State.{beyond, fresh, breaks-limit}
 use Rattle.evaluator.specs.Evaluator.{loaded, advanced, advance-checks, steps-made}
 use Rattle.accuracy.specs.Accuracy as calls
@@ -45,7 +45,7 @@ exact-half = record { solves = solves-row }
 
 -- the last reading is 1, which stands for 1/32
 spelt-half : Y frame-half calls-half 5 0 ≡ pos 1
-unfolding frame-half calls-half calls.run loaded advanced advance-checks steps-made steps one-step fresh breaks-limit beyond frame-checks field number bits values-from decode curve-entry matrix right-side first-row-from every weight total dot sum list-from stores stepped-digits stepped-residuals shifted next-digit next-residual select digit-size reading
+unfolding frame-half calls-half calls.run loaded advanced advance-checks steps-made steps one-step fresh breaks-limit beyond frame-checks field number bits values-from decode curve-entry matrix right-side first-row-from every weight total dot sum list-from stores stepped-digits stepped-residuals shifted next-digit next-residual select rounded estimate cut-down digit-size reading
 spelt-half = refl
 
 -- ---- what the statement gives

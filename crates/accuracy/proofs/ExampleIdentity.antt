@@ -1,4 +1,5 @@
--- `identity` of demand 3 on case A: from the statement alone, both sides of r^k (b - A y) = z + G d in row 1.
+-- `identity` of demand 3 on case A with an x of 3: from the statement alone, both sides of
+-- r^k (b - A y) = z + G d in row 1.
 use mathlib.Core.Path.{_≡_}
 use mathlib.Core.List.{List}
 use Prim.Native.Nat.{ℕ, _<_, _≤_}
@@ -17,16 +18,16 @@ use Rattle.accuracy.proofs.ExampleA.{one-step-A, two-steps-A, digit-1-A
 use Rattle.accuracy.proofs.ExampleDigits.{steps-one, steps-two, held-A}
 
 module _ (holds : (calls : List Call) → Accurate frame-A calls) where
-  -- after one step the digits and the readings are 0 and 1: 2 × 3 - (16 × 0 - 4 × 1) = z + 4 × 1
-  pub identity-one : pos 10 ≡ at (after frame-A one-step-A .z) 0 +ℤ pos 4
+  -- after one step the digits and the readings are 0 and 1: 2 × 3 - (16 × 0 - 3 × 1) = z + 3 × 1
+  pub identity-one : pos 9 ≡ at (after frame-A one-step-A .z) 0 +ℤ pos 3
   unfolding frame-A field number bits values-from decode curve-entry matrix right-side dot sum reading every
   identity-one = rw (steps-one holds, held 0 (omega arith), held 1 (omega arith), digit-1-A 0, digit-2-A 0) at (holds one-step-A .identity 0 (omega arith))
     where
       held : (i : ℕ) → i < 2 → held-digit frame-A one-step-A 1 i ≡ true-digit frame-A 1 i
       held i l = held-A holds one-step-A 1 (steps-one holds) 1 i (omega arith) (omega arith) (omega arith)
 
-  -- after two steps the digits are 1 and 0 and the readings 1 and 2: 4 × 3 - (16 × 1 - 4 × 2) = z + 4 × 0
-  pub identity-two : pos 4 ≡ at (after frame-A two-steps-A .z) 0 +ℤ pos 0
+  -- after two steps the digits are 1 and 0 and the readings 1 and 2: 4 × 3 - (16 × 1 - 3 × 2) = z + 3 × 0
+  pub identity-two : pos 2 ≡ at (after frame-A two-steps-A .z) 0 +ℤ pos 0
   unfolding frame-A field number bits values-from decode curve-entry matrix right-side dot sum reading every
   identity-two =
       rw (

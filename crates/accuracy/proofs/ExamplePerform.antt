@@ -1,5 +1,5 @@
--- `Performed` at work on document 01's cases A and D: from the promise alone, the very numbers that `perform`
--- answers and leaves in the list.
+-- `Performed` at work on case A with an x of 3 and on document 01's case D: from the promise alone, the very
+-- numbers that `perform` answers and leaves in the list.
 use mathlib.Core.Path.{_≡_, refl, sym, ap, ap₂, _∙_}
 use mathlib.Core.List.{List, [], _∷_, _++_}
 use Prim.Native.Nat.{ℕ, _+_, _<_, _≤_}
@@ -14,7 +14,7 @@ use Rattle.system.specs.Rows.{first-row-from}
 use Rattle.system.specs.System.{curve-entry, matrix, right-side}
 use Rattle.frame.specs.Frame.{frame-checks}
 use Rattle.stepping.specs.Steps.{stepped-digits, stepped-residuals, steps, one-step}
-use Rattle.recurrence.specs.Recurrence.{digit, residual, shifted, next-digit, next-residual, reading, select, digit-size}
+use Rattle.recurrence.specs.Recurrence.{digit, residual, shifted, next-digit, next-residual, reading, select, rounded, estimate, cut-down, digit-size}
 use Rattle.state.specs.State.{beyond, fresh, breaks-limit}
 use Rattle.evaluator.specs.Evaluator.{loaded, advanced, advance-checks, steps-made, readings-checks, readings-list}
 use Rattle.scale.specs.Scale.{every}
@@ -58,10 +58,10 @@ third-A before rest part e = by-split before rest part (sym named-A ∙ e)
     by-split (c ∷ d ∷ f ∷ before) rest part e m a b = let z : readings (pos 70 ∷ pos 71 ∷ pos 72 ∷ []) ≡ f = cc in omega (arith, ap room-of z)
 
 module _ (r : Evaluated) (final : List ℤ) (p : Performed frame-A words-A given-A r final) where
-  -- after two steps the rows read 1 and 2, after five 10 and 16; the third word of the part of three is as it
+  -- after two steps the rows read 1 and 2, after five 9 and 16; the third word of the part of three is as it
   -- was, and so is the word past the parts
-  list-A : final ≡ pos 1 ∷ pos 2 ∷ pos 72 ∷ pos 10 ∷ pos 16 ∷ pos 75 ∷ []
-  unfolding words-A given-A calls-of parts-after room-of-all readings-list readings-checks frame-A calls.run loaded advanced advance-checks steps-made steps one-step fresh breaks-limit beyond frame-checks field number bits values-from decode curve-entry matrix right-side first-row-from every weight total dot sum list-from stores stepped-digits stepped-residuals shifted next-digit next-residual select digit-size reading
+  list-A : final ≡ pos 1 ∷ pos 2 ∷ pos 72 ∷ pos 9 ∷ pos 16 ∷ pos 75 ∷ []
+  unfolding words-A given-A calls-of parts-after room-of-all readings-list readings-checks frame-A calls.run loaded advanced advance-checks steps-made steps one-step fresh breaks-limit beyond frame-checks field number bits values-from decode curve-entry matrix right-side first-row-from every weight total dot sum list-from stores stepped-digits stepped-residuals shifted next-digit next-residual select rounded estimate cut-down digit-size reading
   list-A = p .accepted (omega (arith, accepted-A)) .1
 
   -- by demand 3 the scale is 0 and five steps are made
@@ -72,8 +72,8 @@ module _ (r : Evaluated) (final : List ℤ) (p : Performed frame-A words-A given
       ∙ ap₂ (λ (c k : ℕ). record { refusal = 0; row = 0; scale = c; made = k }) (p .accurate (omega (arith, accepted-A)) .scale-held) (p .accurate (omega (arith, accepted-A)) .steps-made)
 
   -- and the fourth word is row 1's reading
-  fourth-word-A : at final 3 ≡ pos 10
-  unfolding before-A room-of-all budgets frame-A field number bits values-from decode curve-entry matrix right-side dot sum digit residual shifted next-digit next-residual select digit-size reading every
+  fourth-word-A : at final 3 ≡ pos 9
+  unfolding before-A room-of-all budgets frame-A field number bits values-from decode curve-entry matrix right-side dot sum digit residual shifted next-digit next-residual select rounded estimate cut-down digit-size reading every
   fourth-word-A = p .handed-out (omega (arith, accepted-A)) before-A [] (pos 73 ∷ pos 74 ∷ []) named-A (omega arith) 0 (omega arith)
 
   kept-A : at final 2 ≡ pos 72

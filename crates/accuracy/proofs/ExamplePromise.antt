@@ -1,4 +1,5 @@
--- What `evaluate` promises, on cases D and A: from the promise alone, the answer and every word of the list.
+-- What `evaluate` promises, on document 01's case D and on A with an x of 3: from the promise alone, the
+-- answer and every word of the list.
 use mathlib.Core.Path.{_≡_, _∙_}
 use mathlib.Core.List.{List, [], _∷_}
 use Prim.Native.Nat.{ℕ, _*_, _<_}
@@ -27,8 +28,8 @@ promised-D list given r final p = p .refused (omega arith)
 -- ---- A, with the budgets 1, 0 and 9 and three words lent
 
 module _ (x y w : ℤ) (r : Evaluated) (final : List ℤ) (p : Promise frame-A (1 ∷ 0 ∷ 9 ∷ []) (x ∷ y ∷ w ∷ []) r final) where
-  -- it is not refused, five steps are made, and the list has 10, 16 and the third word as it was
-  pub promised-A : (r ≡ record { refusal = 0; row = 0; scale = 0; made = 5 }) × (final ≡ pos 10 ∷ pos 16 ∷ w ∷ [])
+  -- it is not refused, five steps are made, and the list has 9, 16 and the third word as it was
+  pub promised-A : (r ≡ record { refusal = 0; row = 0; scale = 0; made = 5 }) × (final ≡ pos 9 ∷ pos 16 ∷ w ∷ [])
   unfolding calls-A
   promised-A =
       let q = p .accepted (omega (arith, accepted-A)) in
@@ -39,9 +40,9 @@ module _ (x y w : ℤ) (r : Evaluated) (final : List ℤ) (p : Promise frame-A (
   unfolding frame-A budgets field number bits values-from decode right-side every
   promised-steps-A = omega (arith, p .accurate (omega (arith, accepted-A)) .steps-made)
 
-  -- the budgets make all steps, and row 1's word is nearer than 1/16 to 5/16:
-  -- 16 × |5 × 32 - 16 × 10 × 1| < 16 × 32
-  pub promised-count-A : 16 * natAbs (pos 5 *ℤ pos 32 -ℤ pos 16 *ℤ pos 10 *ℤ pos 1) < 512
+  -- the budgets make all steps, and row 1's word is nearer than 1/16 to 9/32:
+  -- 16 × |9 × 32 - 32 × 9 × 1| < 32 × 32
+  pub promised-count-A : 16 * natAbs (pos 9 *ℤ pos 32 -ℤ pos 32 *ℤ pos 9 *ℤ pos 1) < 1024
   unfolding frame-A values-A budgets field number bits values-from decode right-side every
   promised-count-A =
-      rw (promised-A .1) at (p .digit-count (omega (arith, accepted-A)) (omega arith) (omega arith) values-A 16 (omega (arith, accepted-A)) exact-A 0 (omega arith))
+      rw (promised-A .1) at (p .digit-count (omega (arith, accepted-A)) (omega arith) (omega arith) values-A 32 (omega (arith, accepted-A)) exact-A 0 (omega arith))

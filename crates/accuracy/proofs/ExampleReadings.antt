@@ -1,5 +1,5 @@
--- `handed-out` and `nothing-out` of demand 3 on case A: from the statement alone, the words that readings
--- leave, in a list of calls with refused ones among them.
+-- `handed-out` and `nothing-out` of demand 3 on case A with an x of 3: from the statement alone, the words
+-- that readings leave, in a list of calls with refused ones among them.
 use mathlib.Core.Path.{_≡_, refl, _∙_}
 use mathlib.Core.List.{List, [], _∷_}
 use Prim.Native.Nat.{ℕ, _<_}

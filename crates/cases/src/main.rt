@@ -1,5 +1,5 @@
-// Document 01's cases and those of scales, run and held against the table of specs/Table.antt, which is
-// proved of the definitions.
+// Document 01's cases, those of scales and one of the estimate, run and held against the table of
+// specs/Table.antt, which is proved of the definitions.
 //
 // For each row the calls are made, and what they answer and hand out is compared with the row's words, part
 // by part. A case that differs has a line with its number, from 1, and what differs first. The last line says

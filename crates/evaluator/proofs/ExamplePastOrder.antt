@@ -1,4 +1,4 @@
--- What is said of entries past the order, at work on document 01's case A: 7 is stored past the order in G,
+-- What is said of entries past the order, at work on case A with an x of 3: 7 is stored past the order in G,
 -- in z and in the digits, and from the statements alone every call answers as before, and the 7 comes back.
 use mathlib.Core.Path.{_≡_, refl, sym, _∙_}
 use mathlib.Core.List.{List, [], _∷_}
@@ -15,7 +15,7 @@ use Rattle.system.specs.System.{curve-entry, matrix, right-side}
 use Rattle.scale.specs.Scale.{every}
 use Rattle.frame.specs.Frame.{frame-checks}
 use Rattle.stepping.specs.Steps.{stepped-digits, stepped-residuals, steps, one-step}
-use Rattle.recurrence.specs.Recurrence.{shifted, next-digit, next-residual, reading, select, digit-size}
+use Rattle.recurrence.specs.Recurrence.{shifted, next-digit, next-residual, reading, select, rounded, estimate, cut-down, digit-size}
 use Rattle.state.specs.State.{beyond, fresh, breaks-limit, SameBelow}
 use Rattle.state.specs.declared.State.{State}
 use Rattle.state.proofs.PastOrder.{overwritten, overwritten-below}
@@ -23,12 +23,13 @@ use Rattle.evaluator.specs.Evaluator.{loaded, advanced, advance-checks, 
 use Rattle.evaluator.specs.PastOrder.{SameLengths, LoadZeros, AdvanceBelow, AdvanceKeeps, ReadingsBelow}
 use Rattle.evaluator.proofs.PastOrder.{load-zeros, advance-below, advance-keeps, readings-below}
 
+-- case A with the x of 3 that document 02 gives it: A's own frame is refused by 8
 unfoldable pub frame-A : List ℕ
-frame-A = 1 ∷ 16 ∷ 68 ∷ 16 ∷ 50 ∷ 0 ∷ []
+frame-A = 1 ∷ 16 ∷ 68 ∷ 12 ∷ 50 ∷ 0 ∷ []
 
--- the job of A, of order 2, and the same with 7 in row 2, counted from 0
+-- its job, of order 2, and the same with 7 in row 2, counted from 0
 unfoldable pub job-A : State
-job-A = fresh (record { kind = 0; code = 0; p = 1; f = 4; n = 2; m = 4 }) (pos 4 ∷ pos 3 ∷ pos 8 ∷ [])
+job-A = fresh (record { kind = 0; code = 0; p = 1; f = 4; n = 2; m = 4 }) (pos 3 ∷ pos 3 ∷ pos 8 ∷ [])
 
 abbrev pub spoilt-A : State
 spoilt-A = overwritten job-A 2 0 0 (pos 7)
@@ -45,13 +46,13 @@ lengths-A = record { residuals = refl; digits = refl }
 
 after-A : (advanced job-A 3 .refusal ≡ 0) × (advanced job-A 3 .made ≡ 3) × (advanced (advanced job-A 3 .state) 9 .made ≡ 2)
     × (advanced (advanced job-A 3 .state) 9 .state .header .n ≡ 2)
-unfolding job-A advanced advance-checks steps-made steps one-step fresh breaks-limit beyond curve-entry matrix right-side first-row-from every weight total dot sum list-from stores stepped-digits stepped-residuals shifted next-digit next-residual select digit-size
+unfolding job-A advanced advance-checks steps-made steps one-step fresh breaks-limit beyond curve-entry matrix right-side first-row-from every weight total dot sum list-from stores stepped-digits stepped-residuals shifted next-digit next-residual select rounded estimate cut-down digit-size
 after-A = (refl, refl, refl, refl)
 
-last-A : (entry (advanced (advanced job-A 3 .state) 9 .state .digits) 3 0 ≡ negsuc 0)
-    × (readings-list (advanced job-A 3 .state) (pos 9 ∷ pos 9 ∷ pos 9 ∷ []) ≡ pos 3 ∷ pos 4 ∷ pos 9 ∷ [])
+last-A : (entry (advanced (advanced job-A 3 .state) 9 .state .digits) 4 0 ≡ negsuc 0)
+    × (readings-list (advanced job-A 3 .state) (pos 9 ∷ pos 9 ∷ pos 9 ∷ []) ≡ pos 2 ∷ pos 4 ∷ pos 9 ∷ [])
     × (readings-refusal (advanced job-A 3 .state) 1 ≡ 23)
-unfolding job-A advanced advance-checks steps-made steps one-step readings-checks readings-list fresh breaks-limit beyond curve-entry matrix right-side first-row-from every weight total dot sum list-from stores stepped-digits stepped-residuals shifted next-digit next-residual select digit-size reading
+unfolding job-A advanced advance-checks steps-made steps one-step readings-checks readings-list fresh breaks-limit beyond curve-entry matrix right-side first-row-from every weight total dot sum list-from stores stepped-digits stepped-residuals shifted next-digit next-residual select rounded estimate cut-down digit-size reading
 last-A = (refl, refl, refl)
 
 -- ---- and from the statements, of the other
@@ -67,13 +68,13 @@ module _ (below : AdvanceBelow) where
   second-A : advanced (advanced spoilt-A 3 .state) 9 .made ≡ 2
   second-A = sym (below _ _ 9 alike-then .made) ∙ after-A .2
 
-  -- the digit of step 4 and row 1 is -1
-  digit-A : entry (advanced (advanced spoilt-A 3 .state) 9 .state .digits) 3 0 ≡ negsuc 0
+  -- the digit of step 5 and row 1 is -1
+  digit-A : entry (advanced (advanced spoilt-A 3 .state) 9 .state .digits) 4 0 ≡ negsuc 0
   digit-A =
-      sym (below _ _ 9 alike-then .state (below job-A spoilt-A 3 alike-A .lengths lengths-A) .digits 3 0 (omega arith) (omega (arith, after-A .3))) ∙ last-A .0
+      sym (below _ _ 9 alike-then .state (below job-A spoilt-A 3 alike-A .lengths lengths-A) .digits 4 0 (omega arith) (omega (arith, after-A .3))) ∙ last-A .0
 
-  -- the readings after three steps are 3 and 4, and a list of one word is too short
-  readings-A : ReadingsBelow → (readings-list (advanced spoilt-A 3 .state) (pos 9 ∷ pos 9 ∷ pos 9 ∷ []) ≡ pos 3 ∷ pos 4 ∷ pos 9 ∷ [])
+  -- the readings after three steps are 2 and 4, and a list of one word is too short
+  readings-A : ReadingsBelow → (readings-list (advanced spoilt-A 3 .state) (pos 9 ∷ pos 9 ∷ pos 9 ∷ []) ≡ pos 2 ∷ pos 4 ∷ pos 9 ∷ [])
       × (readings-refusal (advanced spoilt-A 3 .state) 1 ≡ 23)
   readings-A reads = let x = reads _ _ alike-then in (sym (x .list _) ∙ last-A .1, sym (x .refusal 1) ∙ last-A .2)
 
@@ -95,6 +96,6 @@ module _ (zeros : LoadZeros) where
 
 -- the statements are proved
 pub past-order-A : (advanced spoilt-A 3 .made ≡ 3) × (entry (advanced spoilt-A 3 .state .g) 2 0 ≡ pos 7)
-    × (readings-list (advanced spoilt-A 3 .state) (pos 9 ∷ pos 9 ∷ pos 9 ∷ []) ≡ pos 3 ∷ pos 4 ∷ pos 9 ∷ [])
+    × (readings-list (advanced spoilt-A 3 .state) (pos 9 ∷ pos 9 ∷ pos 9 ∷ []) ≡ pos 2 ∷ pos 4 ∷ pos 9 ∷ [])
     × (entry (loaded frame-A .state .g) 2 0 ≡ pos 0)
 past-order-A = (first-A advance-below .1, kept-A advance-keeps .0, readings-A advance-below readings-below .0, zero-A load-zeros .0)

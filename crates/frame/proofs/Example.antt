@@ -1,5 +1,5 @@
--- The statements on frames at work on document 01's cases A, D and E: from each statement alone, every field
--- of it gives a number, a list of numbers or the bytes of a frame.
+-- The statements on frames at work on document 01's case D, and on A and E with an x of 3: from each
+-- statement alone, every field of it gives a number, a list of numbers or the bytes of a frame.
 use mathlib.Core.Path.{_≡_, refl}
 use mathlib.Core.Bool.{false, not}
 use mathlib.Core.List.{List, [], _∷_}
@@ -24,15 +24,16 @@ use Rattle.frame.specs.Frame.{frame-fields, frame-length, frame-numbers,
 use Rattle.frame.specs.Theorems.{FrameRowsGiven, FrameScale, FrameRoom, FrameReadWrite, FrameWriteRead}
 use Rattle.frame.proofs.Theorems.{frame-rows, frame-scale, frame-room, frame-read-write, frame-write-read}
 
--- the frame of A, its header and its numbers, x, p_0 and p_1; x is 5 in D
+-- case A with the x of 3 that document 02 gives it, as A's own frame is refused by 8: the frame, its header
+-- and its numbers, x, p_0 and p_1; x is 5 in D
 unfoldable pub bytes-A : List ℕ
-bytes-A = 0x01 ∷ 0x10 ∷ 0x44 ∷ 0x10 ∷ 0x32 ∷ 0x00 ∷ []
+bytes-A = 0x01 ∷ 0x10 ∷ 0x44 ∷ 0x0c ∷ 0x32 ∷ 0x00 ∷ []
 
 abbrev pub header-A : Header
 header-A = record { kind = 0; code = 0; p = 1; f = 4; n = 2; m = 4 }
 
 abbrev pub sent-A : List ℤ
-sent-A = pos 4 ∷ pos 3 ∷ pos 8 ∷ []
+sent-A = pos 3 ∷ pos 3 ∷ pos 8 ∷ []
 
 abbrev pub sent-D : List ℤ
 sent-D = pos 5 ∷ pos 3 ∷ pos 8 ∷ []
@@ -57,14 +58,14 @@ taken-A = refl
 limits-A : Limits header-A
 limits-A = limits-exactly header-A .0 refl
 
--- row 1 of D is the first that is too heavy: 4 times its weight of 5 is above 16
+-- row 1 of D is the first that is too heavy: 64 times its weight of 5 is above 240
 heavy-D : FirstRowIs 2 (λ i. not (light-enough header-A (weight 2 (matrix-of header-A sent-D i)))) 0
 unfolding curve-entry matrix weight total
 heavy-D = record { inside = omega arith; here = refl; before = record { never = λ j l. absurd (omega (arith, l)) } }
 
--- E, which is A with p_0 9: its right-hand sides are 9 and 8
+-- E with the x of 3 too, which is A with p_0 9: its right-hand sides are 9 and 8
 unfoldable pub bytes-E : List ℕ
-bytes-E = 0x01 ∷ 0x10 ∷ 0x44 ∷ 0x10 ∷ 0x92 ∷ 0x00 ∷ []
+bytes-E = 0x01 ∷ 0x10 ∷ 0x44 ∷ 0x0c ∷ 0x92 ∷ 0x00 ∷ []
 
 accepted-E : frame-refusal bytes-E ≡ 0
 unfolding bytes-E frame-checks field number bits values-from decode curve-entry matrix right-side first-row-from weight total every
@@ -76,7 +77,7 @@ module _ (holds : FrameReadWrite) where
   -- A, read and written, is A; six bytes are room enough, and of eight the last two stay
   frame-read-write-A : (write (frame-fields header-A sent-A) ≡ bytes-A) × (frame-writer-refusal header-A sent-A 6 ≡ 0)
       × (frame-writer-buffer header-A sent-A (9 ∷ 9 ∷ 9 ∷ 9 ∷ 9 ∷ 9 ∷ 8 ∷ 7 ∷ [])
-      ≡ 0x01 ∷ 0x10 ∷ 0x44 ∷ 0x10 ∷ 0x32 ∷ 0x00 ∷ 8 ∷ 7 ∷ [])
+      ≡ 0x01 ∷ 0x10 ∷ 0x44 ∷ 0x0c ∷ 0x32 ∷ 0x00 ∷ 8 ∷ 7 ∷ [])
   unfolding bytes-A field number bits values-from decode
   frame-read-write-A = let x = holds bytes-A all-bytes-A accepted-A in (x .bytes, x .taken 6 (omega arith), x .buffer _ (omega arith))
 
@@ -84,7 +85,7 @@ module _ (holds : FrameWriteRead) where
   -- what A's header and numbers are written as is six bytes, A's, and read they are these again
   frame-write-read-A : (frame-refusal bytes-A ≡ 0) × (header-of bytes-A ≡ header-A) × (frame-numbers bytes-A ≡ sent-A)
       × (length bytes-A ≡ 6) × (frame-reader-answer bytes-A 3 ≡ record { refusal = 0; row = 0; header = header-A })
-      × (frame-reader-list bytes-A (pos 9 ∷ pos 9 ∷ pos 9 ∷ pos 7 ∷ []) ≡ pos 4 ∷ pos 3 ∷ pos 8 ∷ pos 7 ∷ [])
+      × (frame-reader-list bytes-A (pos 9 ∷ pos 9 ∷ pos 9 ∷ pos 7 ∷ []) ≡ pos 3 ∷ pos 3 ∷ pos 8 ∷ pos 7 ∷ [])
   frame-write-read-A =
       let x = rw spelt-A at (holds header-A sent-A 6 taken-A) in
       (x .accepted, x .header, x .numbers, x .size, x .answer 3 (omega arith), x .list _ (omega arith))
@@ -94,8 +95,8 @@ module _ (holds : FrameRowsGiven) where
   rows-A : (frame-row 8 header-A sent-D ≡ 1) × ((c : ℕ) → 8 < c → frame-row c header-A sent-D ≡ 0)
   rows-A = (holds header-A sent-D .heavy 0 .1 heavy-D, λ c l. holds header-A sent-D .others c (λ e. omega (arith, e, l)))
 
-  -- and a row that is given breaks the rule: 20 is not at most 16
-  rules-A : leb 20 16 ≡ false
+  -- and a row that is given breaks the rule: 320 is not at most 240
+  rules-A : leb 320 240 ≡ false
   unfolding curve-entry matrix weight total
   rules-A = not-true _ (holds header-A sent-D .heavy 0 .0 (rows-A .0) .here)
 

@@ -17,7 +17,7 @@ use native.Mathlib.Nat.{le-refl, div-le-self, mod-le}
 use native.Mathlib.Omega.{arith}
 use lib.Dec.{T, ltb, ltb→lt, leb, leb→le}
 use lib.IntN.{ℤ, pos, negsuc, negℤ, natAbs, _+ℤ_, _*ℤ_}
-use lib.Signed.{mag, quotZ, remZ, ltZ, leZ}
+use lib.Signed.{mag, quotZ, remZ, shrZ, ltZ, leZ}
 use mir.Syntax.{Width, w8, w64}
 use mir.Val.{SFits, hbits, toZ, ofZ}
 use mir.Facts.{toZ-ofZ, toZ-pos}
@@ -140,6 +140,21 @@ machine-rem r s =
       is = both-are (λ x y. remZ x y) r s;
     }
 
+-- nor does what a shift to the right gives, which cuts downward
+pub abs-shr : (a : ℤ) (b m : ℕ) → natAbs a ≤ m → natAbs (shrZ a b) ≤ m
+abs-shr (pos a) b m h = omega (arith, div-le-self a b)
+abs-shr (negsuc a) b m h = omega (arith, div-le-self a b)
+
+abbrev pub machine-shr : (b : ℕ) {a : ℤ} → Machine a → Machine (shrZ a b)
+machine-shr b r =
+    record {
+      clean = shrZ (r .clean) b;
+      top = r .top;
+      below = abs-shr (r .clean) b (r .top) (r .below);
+      good = r .good;
+      is = λ t. ap (λ (x : ℤ). shrZ x b) (r .is t);
+    }
+
 -- a value stored and read again
 pub machine-read-is : (w : Width) (x z : ℤ) (k : ℕ) → x ≡ z → natAbs z ≤ k → T (in-width w k) → toZ w (ofZ w x) ≡ z
 machine-read-is w x z k e h t = ap (λ (y : ℤ). toZ w (ofZ w y)) e ∙ toZ-ofZ (fits-within w z k h t)
@@ -181,7 +196,7 @@ abbrev pub test-le : {a b : ℤ} → Machine a → Machine b → Test (leZ a b)
 test-le r s = record { clean = leZ (r .clean) (s .clean); good = both (r .good) (s .good); is = both-are (λ x y. leZ x y) r s }
 
 pub ruleset machs =
-    (read-i64, read-i8, machine-add, machine-mul, machine-neg, machine-quot, machine-rem, test-lt, test-le, machine-pos, machine-negsuc, within, bounded)
+    (read-i64, read-i8, machine-add, machine-mul, machine-neg, machine-quot, machine-rem, machine-shr, test-lt, test-le, machine-pos, machine-negsuc, within, bounded)
 
 -- ---- what it is used for
 

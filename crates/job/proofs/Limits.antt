@@ -15,7 +15,7 @@ use Rattle.job.specs.Refusal.{first-refusal, None, none, also}
 use Rattle.job.proofs.Refusal.{accepted-exactly, neither, fails, both-fail}
 use Rattle.job.specs.Header.{radix, digit-bits, unit, frame-code, trace-code, steps-out-of-range, unknown-kind, read-checks-knowing, header-checks-knowing, read-checks, trace-read-checks, trace-header-checks, Limits, LimitsExactly}
 use Rattle.job.specs.Kind.{Kind, polynomial, rational, system, unused, kind-of, is-unused, count-of, most-numbers}
-use Rattle.job.specs.Rules.{last-step, trace-steps, most-scale, scaled-steps-out-of-range, scale-out-of-range, ScaleLimits, scale-factor, inner-unit}
+use Rattle.job.specs.Rules.{last-step, trace-steps, most-scale, scaled-steps-out-of-range, scale-out-of-range, ScaleLimits, scale-factor, inner-unit, bound-over, bound-under}
 use Rattle.job.specs.declared.Header.{Header}
 
 -- digits that 60 bits hold are at most 60
@@ -122,6 +122,16 @@ module _ (h : Header) where
 
     pub digit-positive : 1 ≤ h .p
     digit-positive = omega (arith, l .digit-least, radix-least)
+
+    -- the largest digit is at least half the radix, which is even,
+    digit-half : radix (h .code) ≤ 2 * h .p
+    digit-half =
+        let e : radix (h .code) ≡ 2 ^ (h .code) * 2 = pow-add 2 (h .code) 1 in
+        omega (arith, e, l .digit-least)
+
+    -- so the room of a row's weight is not negative
+    pub bound-room : bound-over * (radix (h .code) - 1) ≤ bound-under * h .p
+    bound-room = omega (arith, digit-half, radix-most)
 
     pub digit-small : h .p ≤ 15
     digit-small = omega (arith, l .digit-most, radix-most)

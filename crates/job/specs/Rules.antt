@@ -41,9 +41,10 @@ scale-factor h s = radix (h .code) ^ s
 abbrev pub inner-unit : Header → ℕ → ℕ
 inner-unit h s = unit h * scale-factor h s
 
--- the residual bound: after every step |z| is at most bound-over / bound-under, which is 1/2
+-- the residual bound: after every step |z| is at most bound-over / bound-under, which is 17/32: half a unit,
+-- and 1/32 for what the estimate leaves out of w
 abbrev pub bound-over : ℕ
-bound-over = 1
+bound-over = 17
 
 abbrev pub bound-under : ℕ
-bound-under = 2
+bound-under = 32

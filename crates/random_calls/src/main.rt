@@ -1,13 +1,13 @@
-// Calls on states that no load made: any numbers in any field, and jobs made from cases A and E, of the
-// scales 0 and 1, with random changes, so that some of them pass 24. After each call what its contract
-// says is looked at again, word by word: a refused advance makes 0 steps and gives back every word of the
-// state; an accepted one counts the growth of k, and keeps the header, the scale, the matrix, the digits
-// of the steps before and of the steps still to come, and all that stands past the n-th row; a refused
-// readings keeps every word of the list, and an accepted one keeps the words past the n-th. It prints how
-// many calls of advance and of readings there were for each refusal number, 0 for the accepted ones, and
-// `ok`; at a difference it prints `wrong`.
+// Calls on states that no load made: any numbers in any field, and jobs made from cases A and E with an x
+// of 3, of the scales 0 and 1, with random changes, so that some of them pass 24. After each call what its
+// contract says is looked at again, word by word: a refused advance makes 0 steps and gives back every word
+// of the state; an accepted one counts the growth of k, and keeps the header, the scale, the matrix, the
+// digits of the steps before and of the steps still to come, and all that stands past the n-th row; a
+// refused readings keeps every word of the list, and an accepted one keeps the words past the n-th. It
+// prints how many calls of advance and of readings there were for each refusal number, 0 for the accepted
+// ones, and `ok`; at a difference it prints `wrong`.
 //
-// Each turn makes the steps of cases A and E as well, by load, advance and readings, by evaluate and by
+// Each turn makes the steps of these two jobs as well, by load, advance and readings, by evaluate and by
 // perform, which are to give the same words.
 use emethod::Advanced;
 use emethod::Evaluated;
@@ -154,12 +154,12 @@ fn changed_digits(d: [i8; DIGITS], x: u64) -> [i8; DIGITS] {
     t
 }
 
-// The job of case A, or of case E.
+// The job of case A, or of case E, each with an x of 3.
 fn job_of_either(which: u64, budget: u64) -> State {
     if which == 0 {
-        return job_after(b"\x01\x10\x44\x10\x32\x00", budget);
+        return job_after(b"\x01\x10\x44\x0c\x32\x00", budget);
     }
-    job_after(b"\x01\x10\x44\x10\x92\x00", budget)
+    job_after(b"\x01\x10\x44\x0c\x92\x00", budget)
 }
 
 // A job made from case A or E with one part changed; in some of the cases nothing is.
@@ -343,8 +343,8 @@ fn turn(seed: u64, advances: &mut [u64; TALLIES], reads: &mut [u64; TALLIES]) ->
     let other = random_state(b);
     let before = other.g;
     let mut list = before;
-    ways_agree(b"\x01\x10\x44\x10\x32\x00", a % 7, b % 7)
-        && ways_agree(b"\x01\x10\x44\x10\x92\x00", a % 7, b % 7)
+    ways_agree(b"\x01\x10\x44\x0c\x32\x00", a % 7, b % 7)
+        && ways_agree(b"\x01\x10\x44\x0c\x92\x00", a % 7, b % 7)
         && advance_right(s, random_budget(a), advances)
         && readings_right(s, &before, &mut list, ((b >> 5) % 21) as usize, reads)
 }

@@ -60,15 +60,35 @@ pub record Run (n r u : ℕ) (G : ℕ → ℕ → ℤ) (B : ℕ → ℤ) (z d y 
 
 -- ---- the choice of a digit: which whole number is taken off w, and what every rule of selection has to do
 
--- The digit of the magnitude a: the whole number nearest to a / u, a tie up, while a is at most p u; past
--- that, a / u cut to a whole number, as rounding up could give p + 1. The nearest is a / u + 1/2, cut.
-unfoldable pub digit-size : (p u a : ℕ) → ℕ
-digit-size p u a = cond (leb a (p * u)) ((2 * a + u) / (2 * u)) (a / u)
+-- The choice does not look at w itself but at an estimate of it (document 02, 3/14), which has five fraction
+-- bits: it counts in parts of a unit, of which a unit has 32.
+abbrev pub unit-parts : ℕ
+unit-parts = 32
 
--- The digit of w: that of its magnitude, with w's sign, so that a tie goes away from zero on both sides.
+-- z / u cut down to a whole number, toward minus infinity on both sides: -1 / u is cut to -1
+unfoldable pub cut-down : (u : ℕ) (z : ℤ) → ℤ
+cut-down u (pos a) = pos (a / u)
+cut-down u (negsuc a) = negsuc (a / u)
+
+-- The estimate of w, in parts of the unit u. `EstimateFloor` of Theorems.antt says what it leaves out.
+unfoldable pub estimate : (u : ℕ) (w : ℤ) → ℤ
+estimate u w = cut-down u (pos unit-parts *ℤ w)
+
+-- Document 01's rule, applied to the estimate. The digit of an estimate's magnitude a, in parts: the nearest
+-- whole number of units, a tie up, while a is at most p units; past that, a cut to whole units, as rounding up
+-- could give p + 1. The nearest is a and half a unit, cut.
+unfoldable pub digit-size : (p a : ℕ) → ℕ
+digit-size p a = cond (leb a (p * unit-parts)) ((a + unit-parts / 2) / unit-parts) (a / unit-parts)
+
+-- The digit of an estimate e: that of its magnitude, with e's sign, so that a tie goes away from zero on both
+-- sides.
+unfoldable pub rounded : (p : ℕ) (e : ℤ) → ℤ
+rounded p (pos a) = pos (digit-size p a)
+rounded p (negsuc a) = negℤ (pos (digit-size p (suc a)))
+
+-- the digit of w
 unfoldable pub select : (p u : ℕ) (w : ℤ) → ℤ
-select p u (pos a) = pos (digit-size p u a)
-select p u (negsuc a) = negℤ (pos (digit-size p u (suc a)))
+select p u w = rounded p (estimate u w)
 
 -- What a rule has to do. Residuals are to stay within the fraction c / e of a unit, and digits within p. So
 -- wherever |w| is at most p + c / e units, the digit is within p, and what it leaves is at most c / e. All
@@ -84,7 +104,7 @@ pub record Solves (n u D : ℕ) (G : ℕ → ℕ → ℤ) (B N : ℕ → ℤ) : 
   pub solves : (i : ℕ) → i < n → pos u *ℤ N i -ℤ dot n (G i) N ≡ pos D *ℤ B i
 
 -- ---- light rows (document 01, "The system") and the bounds that steps keep: residuals are to stay within
--- the fraction c / e of a unit, 1/2 in document 01
+-- the fraction c / e of a unit, 17/32 since document 02's 3/14
 
 -- A row of weight S is light (document 01: light enough): e r p S ≤ u (e p - c (r - 1)), put without a
 -- difference; `LightRule` of Theorems.antt says that it is the same. It says that r times what z and the

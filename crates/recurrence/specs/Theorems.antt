@@ -1,13 +1,13 @@
 -- The theorems on the recurrence, over any radix r, largest digit p, unit u, matrix G, right-hand sides B
--- and residual bound c / e, which is 1/2 in document 01. `Identity` and `Distance` hold of every run,
+-- and residual bound c / e, which is 17/32 for the choice by an estimate. `Identity` and `Distance` hold of every run,
 -- whatever rule chose its digits. Each has its proof in proofs/, `identity` that of `Identity` and so on,
 -- for all that the statement names before its equals sign.
 use mathlib.Core.{Path._≡_, Logic._↔_}
 use Prim.Native.Nat.{ℕ, _*_, _-_, _^_, _<_, _≤_}
-use lib.IntN.{ℤ, pos, natAbs, _+ℤ_, _-ℤ_, _*ℤ_}
+use lib.{IntN.ℤ, IntN.pos, IntN.natAbs, IntN._+ℤ_, IntN._-ℤ_, IntN._*ℤ_, Signed._≤ℤ_, Signed._<ℤ_}
 use Rattle.integers.specs.Sum.{dot}
 use Rattle.job.specs.Rules.{bound-over, bound-under}
-use Rattle.recurrence.specs.Recurrence.{Solves, Light, LightRows, WithinBounds, next-digit, next-residual, residual, digit, reading, digit-sum, Run, Selects, select}
+use Rattle.recurrence.specs.Recurrence.{Solves, Light, LightRows, WithinBounds, next-digit, next-residual, residual, digit, reading, digit-sum, Run, Selects, unit-parts, estimate, select}
 
 -- The reading by Horner's rule is document 01's sum, of any digits.
 abbrev pub ReadingSum : Type 0
@@ -26,12 +26,19 @@ Identity n r u G B z d y =
     Run n r u G B z d y →
     (k i : ℕ) → i < n → pos (r ^ k) *ℤ B i -ℤ (pos u *ℤ y k i -ℤ dot n (G i) (y k)) ≡ z k i +ℤ dot n (G i) (d k)
 
--- `Light` is document 01's rule, whose 2 and 1 are e and c.
+-- `Light` is the rule of light rows as the documents put it: in document 01 e and c are 2 and 1, and since
+-- 3/14 they are 32 and 17.
 abbrev pub LightRule : Type 0
 LightRule =
     (r p u c e S : ℕ) → 1 ≤ r → c * (r - 1) ≤ e * p → Light r p u c e S ↔ (e * r * p * S ≤ u * (e * p - c * (r - 1)))
 
--- Document 01's choice is a rule of selection, with residuals of at most half a unit.
+-- The estimate is w cut down to a whole number of parts: less than one part is left out, and never below it.
+abbrev pub EstimateFloor : Type 0
+EstimateFloor =
+    (u : ℕ) (w : ℤ) → 0 < u →
+    ((pos u *ℤ estimate u w) ≤ℤ (pos unit-parts *ℤ w)) × ((pos unit-parts *ℤ w) <ℤ (pos u *ℤ estimate u w +ℤ pos u))
+
+-- The choice by the estimate is a rule of selection, with residuals within their bound.
 abbrev pub SelectSelects : Type 0
 SelectSelects = (p u : ℕ) → 0 < u → Selects p u bound-over bound-under (select p u)
 
@@ -56,7 +63,7 @@ Distance n r p u c e D G B N z d y =
     LightRows n r p u c e G → Run n r u G B z d y → Solves n u D G B N → (k : ℕ) → WithinBounds n p u c e (z k) (d k) →
     (i : ℕ) → i < n → (r - 1) * natAbs (N i *ℤ pos (r ^ k) -ℤ pos D *ℤ y k i) ≤ p * D
 
--- The same of the steps by `select`, with document 01's residual bound.
+-- The same of the steps by `select`, with its residual bound.
 abbrev pub SelectDistance : (n r p u D : ℕ) (G : ℕ → ℕ → ℤ) (B N : ℕ → ℤ) → Type 0
 SelectDistance n r p u D G B N =
     1 < r → 0 < u → LightRows n r p u bound-over bound-under G →

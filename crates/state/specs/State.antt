@@ -92,7 +92,7 @@ steps-broken s = ltb (state-last s) (s .k)
 abbrev pub row-broken : State → Bool
 row-broken s = ltb 0 (heavy-row (s .header) (entry (s .g)))
 
--- |z| above its bound of 1/2
+-- |z| above its bound of 17/32
 abbrev pub residual-broken : State → Bool
 residual-broken s = ltb 0 (large-residual (s .header) (s .scale) (at (s .z)))
 

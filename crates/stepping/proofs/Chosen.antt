@@ -1,24 +1,26 @@
--- The choice of a digit as the code makes it: the unit as bits, half a unit added to a magnitude, the sign
--- put back, and what the digit leaves. Cited by the proofs of `unit`, `digit_size`, `select` and
--- `residual_after`.
-use mathlib.Core.Path.{_≡_, refl, sym, ap, _∙_}
-use mathlib.Core.Bool.{Bool, true, false}
+-- The choice of a digit as the code makes it: the unit as bits, the shift that gives the estimate, its rounding
+-- by one signed division, and what the digit leaves. Cited by the proofs of `unit`, `estimate`, `rounded`,
+-- `select` and `residual_after`.
+use mathlib.Core.Path.{_≡_, refl, sym, ap, ap₂, _∙_}
+use mathlib.Core.Bool.{Bool, true, false, cond}
 use mathlib.Core.Logic.{_⊎_, inl, inr}
-use Prim.Native.Nat.{ℕ, suc, _+_, _*_, _/_, _%_, _^_, _<_, _≤_}
-use native.Mathlib.Nat.{mod-lt, div-add-mod, div-le-self}
+use Prim.Native.Nat.{ℕ, suc, _+_, _*_, _/_, _^_, _<_, _≤_}
+use native.Mathlib.Nat.{mul-le-mul}
 use native.Mathlib.Omega.{arith}
-use borrow.Author.Tests.{leb-true, leb-false}
+use borrow.Author.Tests.{lt-ltb, le-ltb}
 use lib.IntN.{ℤ, pos, negsuc, negℤ, natAbs, _+ℤ_, _-ℤ_, _*ℤ_, +ℤ-idl}
 use lib.Pow.{pow-mono, pow-pos}
-use lib.Signed.{leZ, ltZ, quotZ}
+use lib.Signed.{ltZ, quotZ, shrZ}
 use mir.Syntax.{w64}
 use mir.Val.{SFits, toZ, ofZ}
+use mir.Facts.{toZ-ofZ}
 use Rattle.integers.specs.Sum.{Within}
-use Rattle.integers.proofs.Machine.{Machine, known, cast, machs, read-i64, machine-fits, machine-eq, machine-test}
+use Rattle.integers.proofs.Machine.{Machine, known, bounded, cast, machs, machine-fits, machine-eq, machine-test}
 use Rattle.integers.proofs.Maximum.{le-or-lt}
 use Rattle.integers.proofs.Order.{zarith}
-use Rattle.recurrence.specs.Recurrence.{digit-size, select}
-use Rattle.recurrence.proofs.Selection.{digit-size-nearest, digit-size-cut}
+use Rattle.recurrence.specs.Recurrence.{cut-down, estimate, digit-size, rounded, select}
+use Rattle.recurrence.proofs.Selection.{digit-size-round, digit-size-cut, estimate-small, select-selects}
+use Rattle.stepping.specs.Inner.{lesser, greater}
 
 -- ---- the unit
 
@@ -29,142 +31,178 @@ unit-within f h = pow-mono h
 abbrev unit-value : (f : ℕ) → f ≤ 44 → (one : ℤ) → one ≡ pos (2 ^ f) → Machine one
 unit-value f h one e = known one (pos (2 ^ f)) (2 ^ 44) e (unit-within f h)
 
--- ---- the digit of a magnitude
+-- ---- the estimate
 
--- half a unit added and the sum cut is the nearest whole number, whether or not the unit is even
-pub digit-size-half : (p u a : ℕ) → 0 < u → a ≤ p * u → (a + u / 2) / u ≡ digit-size p u a
-digit-size-half p u a hu h = by ((a + u / 2) / u) ((a + u / 2) % u) (div-add-mod (a + u / 2) u) (mod-lt (a + u / 2) hu)
+-- a shift cuts down
+shift-is-cut : (u : ℕ) (z : ℤ) → shrZ z u ≡ cut-down u z
+unfolding cut-down
+shift-is-cut u (pos a) = refl
+shift-is-cut u (negsuc a) = refl
+
+module _ (w : ℤ) (f : ℕ) (hw : Within w (2 ^ 49)) where
+  pub parts-fit : SFits w64 (pos 32 *ℤ toZ w64 (ofZ w64 w))
+  parts-fit = machine-fits (search machs depth 9) tt
+
+  pub estimate-is : toZ w64 (ofZ w64 (shrZ (toZ w64 (ofZ w64 (pos 32 *ℤ toZ w64 (ofZ w64 w)))) (2 ^ f))) ≡ estimate (2 ^ f) w
+  unfolding estimate
+  estimate-is = machine-eq (search machs depth 9) tt (shift-is-cut (2 ^ f) (pos 32 *ℤ w))
+
+-- ---- the lesser and the greater
+
+-- what a test of two numbers of the machine picks is what the test of the numbers does
+module _ (x y v u : ℤ) (hx : SFits w64 x) (hy : SFits w64 y) where
+  test-is : {b : Bool} → ltZ (toZ w64 (ofZ w64 x)) (toZ w64 (ofZ w64 y)) ≡ b → ltZ x y ≡ b
+  test-is t = sym (ap₂ ltZ (toZ-ofZ hx) (toZ-ofZ hy)) ∙ t
+
+  pub picked : SFits w64 v → ltZ (toZ w64 (ofZ w64 x)) (toZ w64 (ofZ w64 y)) ≡ true → toZ w64 (ofZ w64 v) ≡ cond (ltZ x y) v u
+  picked hv t = toZ-ofZ hv ∙ rw (test-is t) refl
+
+  pub passed : SFits w64 u → ltZ (toZ w64 (ofZ w64 x)) (toZ w64 (ofZ w64 y)) ≡ false → toZ w64 (ofZ w64 u) ≡ cond (ltZ x y) v u
+  passed hu t = toZ-ofZ hu ∙ rw (test-is t) refl
+
+-- ---- the rounding
+
+-- while a and half a unit is at most p units and 31 parts, its quotient is the digit; from there on p is
+raised : (p a : ℕ) → a ≤ 32 * p + 15 → (a + 16) / 32 ≡ digit-size p a
+raised p a h = by-case (le-or-lt a (p * 32))
   where
-    by : (m t : ℕ) → u * m + t ≡ a + u / 2 → t < u → m ≡ digit-size p u a
-    by m t e l = sym (digit-size-nearest p u a m h (omega arith) (omega arith))
+    by-case : (a ≤ p * 32) ⊎ (p * 32 < a) → (a + 16) / 32 ≡ digit-size p a
+    by-case (inl l) = sym (digit-size-round p a l)
+    by-case (inr l) = rw (digit-size-cut p a l) (omega arith)
 
-pub digit-size-le : (p u a : ℕ) → 0 < u → digit-size p u a ≤ a + u / 2
-digit-size-le p u a hu = by-case (le-or-lt a (p * u))
+held : (p a : ℕ) → 32 * p + 15 < a → a ≤ 32 * p + 17 → (32 * p + 31) / 32 ≡ digit-size p a
+held p a l h = rw (digit-size-cut p a (omega arith)) (omega arith)
+
+-- what the code divides: it is small, and its quotient by 32 is the digit of e
+pub record Divided (p : ℕ) (e x : ℤ) : Type 0 where
+  pub small : natAbs x ≤ 1024
+  pub digit : quotZ x (pos 32) ≡ rounded p e
+
+pub above-divided : (p : ℕ) (e : ℤ) → p ≤ 15 → natAbs e ≤ 32 * p + 17 → ltZ e (pos 0) ≡ false → Divided p e (lesser (e +ℤ pos 16) (pos (32 * p + 31)))
+unfolding rounded
+above-divided p (negsuc a) hp h t = absurd (omega (zarith, t))
+above-divided p (pos a) hp h t = by-case (le-or-lt a (32 * p + 15))
   where
-    by-case : (a ≤ p * u) ⊎ (p * u < a) → digit-size p u a ≤ a + u / 2
-    by-case (inl h) = omega (arith, digit-size-half p u a hu h, div-le-self (a + u / 2) u)
-    by-case (inr h) = omega (arith, digit-size-cut p u a h, div-le-self a u)
+    by-case : (a ≤ 32 * p + 15) ⊎ (32 * p + 15 < a) → Divided p (pos a) (lesser (pos (a + 16)) (pos (32 * p + 31)))
+    by-case (inl l) = rw (le-ltb (32 * p + 31) (a + 16) (omega arith)) (record { small = omega arith; digit = ap pos (raised p a l) })
+    by-case (inr l) = rw (lt-ltb (32 * p + 31) (a + 16) (omega arith)) (record { small = omega arith; digit = ap pos (held p a l h) })
 
--- what the code divides: a magnitude, raised by half a unit where it is at most p units. Its quotient by
--- the unit u is the digit q.
-pub record Raised (u q : ℕ) (x : ℤ) : Type 0 where
-  pub size : ℕ
-  pub is : x ≡ pos size
-  pub small : size ≤ 2 ^ 50
-  pub digit : size / u ≡ q
+pub below-divided : (p : ℕ) (e : ℤ) → p ≤ 15 → natAbs e ≤ 32 * p + 17 → ltZ e (pos 0) ≡ true → Divided p e (greater (e -ℤ pos 16) (negsuc (32 * p + 30)))
+unfolding rounded
+below-divided p (pos a) hp h t = absurd (omega (zarith, t))
+below-divided p (negsuc a) hp h t = by-case (le-or-lt (suc a) (32 * p + 15))
+  where
+    by-case : (suc a ≤ 32 * p + 15) ⊎ (32 * p + 15 < suc a) → Divided p (negsuc a) (greater (negsuc (suc (a + 15))) (negsuc (32 * p + 30)))
+    by-case (inl l) =
+        let e : suc (suc (a + 15)) / 32 ≡ digit-size p (suc a) = ap (λ (n : ℕ). n / 32) (omega arith) ∙ raised p (suc a) l in
+        rw (le-ltb (32 * p + 30) (suc (a + 15)) (omega arith)) (record { small = omega arith; digit = ap (λ (n : ℕ). negℤ (pos n)) e })
+    by-case (inr l) =
+        let e : suc (32 * p + 30) / 32 ≡ digit-size p (suc a) = ap (λ (n : ℕ). n / 32) (omega arith) ∙ held p (suc a) l h in
+        rw (lt-ltb (32 * p + 30) (suc (a + 15)) (omega arith)) (record { small = omega arith; digit = ap (λ (n : ℕ). negℤ (pos n)) e })
 
-same : (w : ℤ) → Within w (2 ^ 49) → toZ w64 (ofZ w64 w) ≡ w
-same w hw = machine-eq (search machs depth 9) tt refl
+bottom-is : (p : ℕ) → pos 0 -ℤ pos (32 * p + 31) ≡ negsuc (32 * p + 30)
+bottom-is p = let e : 32 * p + 31 ≡ suc (32 * p + 30) = omega arith in +ℤ-idl (negℤ (pos (32 * p + 31))) ∙ ap (λ (n : ℕ). negℤ (pos n)) e
 
--- `size`, `half` and `one` are what `magnitude`, `half_pow2` and `unit` gave of w and f
-pub record Given (w : ℤ) (f p : ℕ) (size half one : ℤ) : Type 0 where
-  pub bits : f ≤ 44
-  pub largest : p ≤ 15
-  pub within : Within w (2 ^ 49)
-  pub size-is : size ≡ pos (natAbs (toZ w64 (ofZ w64 w)))
-  pub half-is : half ≡ pos (2 ^ f / 2)
-  pub one-is : one ≡ pos (2 ^ f)
-
-module _ {w : ℤ} {f p : ℕ} {size half one : ℤ} (k : Given w f p size half one) where
-  abbrev the-size : Machine size
-  the-size = known size (pos (natAbs w)) (2 ^ 49) (k .size-is ∙ ap (λ x. pos (natAbs x)) (same w (k .within))) (k .within .abs)
-
-  abbrev the-half : Machine half
-  the-half = known half (pos (2 ^ f / 2)) (2 ^ 44) (k .half-is) (omega (arith, unit-within f (k .bits)))
-
-  abbrev the-unit : Machine one
-  the-unit = unit-value f (k .bits) one (k .one-is)
-
+module _ (e : ℤ) (p : ℕ) (hp : p ≤ 15) (he : natAbs e ≤ 32 * p + 17) where
   abbrev the-largest : Machine (toZ w64 p)
-  the-largest = cast w64 p 15 (k .largest)
+  the-largest = cast w64 p 15 hp
 
-  pub top-fits : SFits w64 (toZ w64 p *ℤ toZ w64 (ofZ w64 one))
-  top-fits = let a = the-largest in let b = the-unit in machine-fits (search machs depth 9) tt
+  abbrev the-e : Machine e
+  the-e = bounded e 497 (omega (arith, he))
 
-  pub up-fits : SFits w64 (toZ w64 (ofZ w64 size) +ℤ toZ w64 (ofZ w64 half))
-  up-fits = let a = the-size in let b = the-half in machine-fits (search machs depth 9) tt
+  -- the code's largest sum, and the sums
+  abbrev most : ℤ
+  most = toZ w64 (ofZ w64 (toZ w64 (ofZ w64 (pos 32 *ℤ toZ w64 p)) +ℤ pos 31))
 
-  -- the code's test of the magnitude against p units
-  abbrev at-most : Bool
-  at-most = leZ (toZ w64 (ofZ w64 size)) (toZ w64 (ofZ w64 (toZ w64 p *ℤ toZ w64 (ofZ w64 one))))
+  pub top-fits : SFits w64 (pos 32 *ℤ toZ w64 p)
+  top-fits = let a = the-largest in machine-fits (search machs depth 9) tt
 
-  pub raised : (up : ℕ) → at-most ≡ true → up ≡ ofZ w64 (toZ w64 (ofZ w64 size) +ℤ toZ w64 (ofZ w64 half)) →
-      Raised (2 ^ f) (digit-size p (2 ^ f) (natAbs w)) (toZ w64 up)
-  raised up t e =
-      let a = the-size in let b = the-half in let c = the-unit in let d = the-largest in
-      let l : natAbs w ≤ p * 2 ^ f = leb-true (natAbs w) (p * 2 ^ f) (machine-test t (search machs depth 9) tt) in
-      record {
-        size = natAbs w + 2 ^ f / 2;
-        is = ap (toZ w64) e ∙ machine-eq (search machs depth 9) tt refl;
-        small = omega (arith, unit-within f (k .bits), k .within .abs);
-        digit = digit-size-half p (2 ^ f) (natAbs w) (pow-pos f) l;
-      }
+  pub most-fits : SFits w64 (toZ w64 (ofZ w64 (pos 32 *ℤ toZ w64 p)) +ℤ pos 31)
+  most-fits = let a = the-largest in machine-fits (search machs depth 9) tt
 
-  pub unraised : (up : ℕ) → at-most ≡ false → up ≡ ofZ w64 size → Raised (2 ^ f) (digit-size p (2 ^ f) (natAbs w)) (toZ w64 up)
-  unraised up t e =
-      let a = the-size in let b = the-unit in let c = the-largest in
-      let l : p * 2 ^ f < natAbs w = leb-false (natAbs w) (p * 2 ^ f) (machine-test t (search machs depth 9) tt) in
-      record {
-        size = natAbs w;
-        is = ap (toZ w64) e ∙ machine-eq (search machs depth 9) tt refl;
-        small = omega (arith, k .within .abs);
-        digit = sym (digit-size-cut p (2 ^ f) (natAbs w) l);
-      }
+  pub least-fits : SFits w64 (pos 0 -ℤ most)
+  least-fits = let a = the-largest in machine-fits (search machs depth 12) tt
 
--- the quotient of what is raised
-module _ (f q : ℕ) (hf : f ≤ 44) (x one : ℤ) (eo : one ≡ pos (2 ^ f)) (h : Raised (2 ^ f) q x) where
-  unit-read : toZ w64 (ofZ w64 one) ≡ pos (2 ^ f)
-  unit-read = let a = unit-value f hf one eo in machine-eq (search machs depth 9) tt refl
+  pub above-fits : SFits w64 (toZ w64 (ofZ w64 e) +ℤ pos 16)
+  above-fits = let a = the-e in machine-fits (search machs depth 9) tt
 
-  quotient-is : quotZ x (toZ w64 (ofZ w64 one)) ≡ pos q
-  quotient-is = rw (h .is, unit-read) (ap pos (h .digit))
+  pub below-fits : SFits w64 (toZ w64 (ofZ w64 e) -ℤ pos 16)
+  below-fits = let a = the-e in machine-fits (search machs depth 9) tt
 
-  digit-small : natAbs (pos q) ≤ 2 ^ 50
-  digit-small = omega (arith, h .digit, div-le-self (h .size) (2 ^ f), h .small)
+  above-read : toZ w64 (ofZ w64 (toZ w64 (ofZ w64 e) +ℤ pos 16)) ≡ e +ℤ pos 16
+  above-read = let a = the-e in machine-eq (search machs depth 9) tt refl
 
-  abbrev the-quotient : Machine (quotZ x (toZ w64 (ofZ w64 one)))
-  the-quotient = known (quotZ x (toZ w64 (ofZ w64 one))) (pos q) (2 ^ 50) quotient-is digit-small
+  below-read : toZ w64 (ofZ w64 (toZ w64 (ofZ w64 e) -ℤ pos 16)) ≡ e -ℤ pos 16
+  below-read = let a = the-e in machine-eq (search machs depth 9) tt refl
 
-  pub quotient-fits : (0 < ofZ w64 one) × SFits w64 (quotZ x (toZ w64 (ofZ w64 one)))
-  quotient-fits = (rw eo (pow-pos f), machine-fits the-quotient tt)
+  most-read : most ≡ pos (32 * p + 31)
+  most-read = let a = the-largest in machine-eq (search machs depth 9) tt refl
 
-  pub quotient-read : toZ w64 (ofZ w64 (quotZ x (toZ w64 (ofZ w64 one)))) ≡ pos q
-  quotient-read = machine-eq (read-i64 the-quotient) tt refl
+  least-read : toZ w64 (ofZ w64 (pos 0 -ℤ most)) ≡ negsuc (32 * p + 30)
+  least-read = let a = the-largest in machine-eq (search machs depth 12) tt (bottom-is p)
 
--- ---- the sign
+  abbrev negative : Bool
+  negative = ltZ (toZ w64 (ofZ w64 e)) (pos 0)
 
-of-negative : (p u : ℕ) (w : ℤ) → ltZ w (pos 0) ≡ true → pos 0 -ℤ pos (digit-size p u (natAbs w)) ≡ select p u w
-unfolding select
-of-negative p u (pos a) h = absurd (omega (zarith, h))
-of-negative p u (negsuc a) h = +ℤ-idl (negℤ (pos (digit-size p u (suc a))))
+  -- `x` is what `lesser` or `greater` gave, and `up` what the two ways have left
+  pub up-above : (x : ℤ) (up : ℕ) → x ≡ lesser (toZ w64 (ofZ w64 (toZ w64 (ofZ w64 e) +ℤ pos 16))) most → negative ≡ false → up ≡ ofZ w64 x → Divided p e (toZ w64 up)
+  up-above x up k t b =
+      let d = above-divided p e hp he (let a = the-e in machine-test t (search machs depth 9) tt) in
+      let a = known x (lesser (e +ℤ pos 16) (pos (32 * p + 31))) 1024 (k ∙ rw (above-read, most-read) refl) (d .small) in
+      let r : toZ w64 up ≡ lesser (e +ℤ pos 16) (pos (32 * p + 31)) = ap (toZ w64) b ∙ machine-eq (search machs depth 9) tt refl in
+      rw r d
 
-of-nonnegative : (p u : ℕ) (w : ℤ) → ltZ w (pos 0) ≡ false → pos (digit-size p u (natAbs w)) ≡ select p u w
-unfolding select
-of-nonnegative p u (pos a) h = refl
-of-nonnegative p u (negsuc a) h = absurd (omega (zarith, h))
+  pub up-below : (x : ℤ) (up : ℕ) → x ≡ greater (toZ w64 (ofZ w64 (toZ w64 (ofZ w64 e) -ℤ pos 16))) (toZ w64 (ofZ w64 (pos 0 -ℤ most))) → negative ≡ true → up ≡ ofZ w64 x → Divided p e (toZ w64 up)
+  up-below x up k t b =
+      let d = below-divided p e hp he (let a = the-e in machine-test t (search machs depth 9) tt) in
+      let a = known x (greater (e -ℤ pos 16) (negsuc (32 * p + 30))) 1024 (k ∙ rw (below-read, least-read) refl) (d .small) in
+      let r : toZ w64 up ≡ greater (e -ℤ pos 16) (negsuc (32 * p + 30)) = ap (toZ w64) b ∙ machine-eq (search machs depth 9) tt refl in
+      rw r d
 
--- `size` is what `digit_size` gave
-module _ (w : ℤ) (f p : ℕ) (hf : f ≤ 44) (hw : Within w (2 ^ 49)) (size : ℤ) (es : size ≡ pos (digit-size p (2 ^ f) (natAbs (toZ w64 (ofZ w64 w))))) where
-  size-is : size ≡ pos (digit-size p (2 ^ f) (natAbs w))
-  size-is = es ∙ ap (λ x. pos (digit-size p (2 ^ f) (natAbs x))) (same w hw)
+-- the quotient of what is divided
+module _ (p : ℕ) (e x : ℤ) (d : Divided p e x) where
+  pub quotient-fits : SFits w64 (quotZ x (pos 32))
+  quotient-fits = let a = bounded x 1024 (d .small) in machine-fits (search machs depth 9) tt
 
-  abbrev the-digit : Machine size
-  the-digit =
-      known size (pos (digit-size p (2 ^ f) (natAbs w))) (2 ^ 50) size-is
-      (omega (arith, digit-size-le p (2 ^ f) (natAbs w) (pow-pos f), unit-within f hf, hw .abs))
+  pub quotient-is : toZ w64 (ofZ w64 (quotZ x (pos 32))) ≡ rounded p e
+  quotient-is = let a = bounded x 1024 (d .small) in machine-eq (search machs depth 9) tt (d .digit)
 
-  pub opposite-fits : SFits w64 (pos 0 -ℤ toZ w64 (ofZ w64 size))
-  opposite-fits = let a = the-digit in machine-fits (search machs depth 9) tt
+-- ---- the digit of w
 
-  pub select-negative : ltZ (toZ w64 (ofZ w64 w)) (pos 0) ≡ true → toZ w64 (ofZ w64 (pos 0 -ℤ toZ w64 (ofZ w64 size))) ≡ select p (2 ^ f) w
-  select-negative t =
-      let a = the-digit in
-      machine-eq (search machs depth 9) tt (of-negative p (2 ^ f) w (machine-test t (search machs depth 9) tt))
+module _ (w : ℤ) (f p : ℕ) (hf : f ≤ 44) (hp : p ≤ 15) (h : 32 * natAbs w ≤ (32 * p + 17) * 2 ^ f) where
+  w-small : Within w (2 ^ 49)
+  w-small =
+      let k : 32 * p + 17 ≤ 497 = omega arith in
+      let l : (32 * p + 17) * 2 ^ f ≤ 497 * 2 ^ 44 = mul-le-mul k (unit-within f hf) in
+      record { abs = omega (arith, h) }
 
-  pub select-nonnegative : ltZ (toZ w64 (ofZ w64 w)) (pos 0) ≡ false → toZ w64 (ofZ w64 size) ≡ select p (2 ^ f) w
-  select-nonnegative t =
-      let a = the-digit in
-      machine-eq (search machs depth 9) tt (of-nonnegative p (2 ^ f) w (machine-test t (search machs depth 9) tt))
+  w-read : toZ w64 (ofZ w64 w) ≡ w
+  w-read = let a = w-small in machine-eq (search machs depth 9) tt refl
+
+  pub w-within : Within (toZ w64 (ofZ w64 w)) (2 ^ 49)
+  w-within = rw w-read w-small
+
+  e-small : natAbs (estimate (2 ^ f) w) ≤ 32 * p + 17
+  e-small = estimate-small p (2 ^ f) (pow-pos f) w h
+
+  -- `e` is what `estimate` gave
+  module _ (e : ℤ) (ee : e ≡ estimate (2 ^ f) (toZ w64 (ofZ w64 w))) where
+    abbrev the-estimate : Machine e
+    the-estimate = known e (estimate (2 ^ f) w) 497 (ee ∙ ap (estimate (2 ^ f)) w-read) (omega (arith, e-small))
+
+    e-read : toZ w64 (ofZ w64 e) ≡ estimate (2 ^ f) w
+    e-read = let a = the-estimate in machine-eq (search machs depth 9) tt refl
+
+    pub e-within : natAbs (toZ w64 (ofZ w64 e)) ≤ 32 * p + 17
+    e-within = rw e-read e-small
+
+    -- `q` is what `rounded` gave
+    pub select-is : (q : ℤ) → q ≡ rounded p (toZ w64 (ofZ w64 e)) → toZ w64 (ofZ w64 q) ≡ select p (2 ^ f) w
+    unfolding select
+    select-is q eq =
+        let d : q ≡ rounded p (estimate (2 ^ f) w) = eq ∙ ap (rounded p) e-read in
+        let a = known q (rounded p (estimate (2 ^ f) w)) 15 d (omega (arith, select-selects p (2 ^ f) (pow-pos f) .small w h)) in
+        machine-eq (search machs depth 9) tt refl
 
 -- ---- what a digit leaves
 

@@ -47,7 +47,7 @@ module _ {z s : List ℤ} {n r q p f i : ℕ} {v : List ℤ} (h : Begun z s n r 
   W-bound = h .may .bound i (h .below)
 
   W-small : natAbs W ≤ 2 ^ 49
-  W-small = let k : 2 * p + 1 ≤ 31 = omega (arith, h .may .largest) in omega (arith, W-bound, mul-le-mul k unit-bound)
+  W-small = let k : 32 * p + 17 ≤ 497 = omega (arith, h .may .largest) in omega (arith, W-bound, mul-le-mul k unit-bound)
 
   rule : Selects p (2 ^ f) bound-over bound-under (select p (2 ^ f))
   rule = select-selects p (2 ^ f) (pow-pos f)
@@ -93,6 +93,10 @@ module _ {z s : List ℤ} {n r q p f i : ℕ} {v : List ℤ} (h : Begun z s n r 
 
     pub w-within : Within (toZ w64 (ofZ w64 w)) (2 ^ 49)
     w-within = let a = the-w in machine-within (search machs depth 9) tt
+
+    -- what `select` asks
+    pub w-bound : bound-under * natAbs (toZ w64 (ofZ w64 w)) ≤ (bound-under * p + bound-over) * 2 ^ f
+    w-bound = rw w-read W-bound
 
     -- `d` is what `select` gave
     module _ (d : ℤ) (ed : d ≡ select p (2 ^ f) (toZ w64 (ofZ w64 w))) where

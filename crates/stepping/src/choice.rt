@@ -1,13 +1,14 @@
-// The choice of one step: a digit in each row, and the residual that it leaves. Residuals and w are in units
-// of 1 / 2^f, so that 2^f stands for 1; f is the fraction bits inside a state. A row's sum is in the unit of
-// the frame's numbers, one of which is q units of w.
+// The choice of one step: a digit in each row, from an estimate of w, and the residual that it leaves.
+// Residuals and w are in units of 1 / 2^f, so that 2^f stands for 1; f is the fraction bits inside a state. A
+// row's sum is in the unit of the frame's numbers, one of which is q units of w.
 ghost use mathlib.Core.Path.{_≡_};
 ghost use Prim.Native.Nat.{_+_, _*_, _/_, _^_, _<_, _≤_};
 ghost use lib.IntN.{pos, natAbs, _+ℤ_, _-ℤ_, _*ℤ_};
 ghost use Rattle.integers.specs.Sum.{Within};
-ghost use Rattle.recurrence.specs.Recurrence.{digit-size, select};
+ghost use Rattle.job.specs.Rules.{bound-over, bound-under};
+ghost use Rattle.recurrence.specs.Recurrence.{estimate, rounded, select};
 ghost use Rattle.stepping.specs.Steps.{filled};
-ghost use Rattle.stepping.specs.Inner.{digit-from, residual-from, MayChoose};
+ghost use Rattle.stepping.specs.Inner.{lesser, greater, digit-from, residual-from, MayChoose};
 use job::ROWS;
 
 // 2^f, signed.
@@ -18,36 +19,49 @@ fn unit(f: usize) -> i64
     integers::to_signed(integers::pow2(f))
 }
 
-// |w|, signed. `integers::magnitude` gives it without a sign; here the compiler has to see that what is
-// divided is not negative.
-fn magnitude(w: i64) -> i64
-    requires { ⌜ Within w (2 ^ 49) ⌝ }
-    ensures { λ a. ⌜ a ≡ pos (natAbs w) ⌝ }
+// The estimate of w in 32nds of a unit: 32 w over the unit, cut down. A shift rounds downward, for a negative
+// number too.
+fn estimate(w: i64, f: usize) -> i64
+    requires { ⌜ (f ≤ 44) × Within w (2 ^ 49) ⌝ }
+    ensures { λ e. ⌜ e ≡ estimate (2 ^ f) w ⌝ }
 {
-    if w < 0 { 0 - w } else { w }
+    (32 * w) >> f
 }
 
-// The digit of w's magnitude: half a unit is added before the division cuts, while the magnitude is at most p
-// units. The dividend is never negative, so that the machine divides by a shift.
-fn digit_size(w: i64, f: usize, p: usize) -> i64
-    requires { ⌜ (f ≤ 44) × (p ≤ 15) × Within w (2 ^ 49) ⌝ }
-    ensures { λ q. ⌜ q ≡ pos (digit-size p (2 ^ f) (natAbs w)) ⌝ }
+// The lesser of two numbers.
+fn lesser(a: i64, b: i64) -> i64
+    ensures { λ r. ⌜ r ≡ lesser a b ⌝ }
 {
-    let size = magnitude(w);
-    let half = integers::half_pow2(f);
-    let top = (p as i64) * unit(f);
-    let up = if size <= top { size + half } else { size };
-    up / unit(f)
+    if b < a { b } else { a }
 }
 
-// The digit that is taken off w: w over 2^f, rounded by magnitude, so that a tie goes away from zero on
-// both sides, and cut above p.
+// The greater of two numbers.
+fn greater(a: i64, b: i64) -> i64
+    ensures { λ r. ⌜ r ≡ greater a b ⌝ }
+{
+    if a < b { b } else { a }
+}
+
+// The digit of an estimate: half a unit with the estimate's sign is added, and a division with a sign cuts
+// toward zero, so that a tie goes away from zero on both sides. The sum is held to the largest that is still
+// cut to p, as a sum above it would give p + 1.
+fn rounded(e: i64, p: usize) -> i64
+    requires { ⌜ (p ≤ 15) × (natAbs e ≤ bound-under * p + bound-over) ⌝ }
+    ensures { λ q. ⌜ q ≡ rounded p e ⌝ }
+{
+    let most = 32 * (p as i64) + 31;
+    let above = lesser(e + 16, most);
+    let below = greater(e - 16, 0 - most);
+    let up = if e < 0 { below } else { above };
+    up / 32
+}
+
+// The digit that is taken off w.
 fn select(w: i64, f: usize, p: usize) -> i64
-    requires { ⌜ (f ≤ 44) × (p ≤ 15) × Within w (2 ^ 49) ⌝ }
+    requires { ⌜ (f ≤ 44) × (p ≤ 15) × (bound-under * natAbs w ≤ (bound-under * p + bound-over) * 2 ^ f) ⌝ }
     ensures { λ q. ⌜ q ≡ select p (2 ^ f) w ⌝ }
 {
-    let q = digit_size(w, f, p);
-    if w < 0 { 0 - q } else { q }
+    rounded(estimate(w, f), p)
 }
 
 // Document 01's w: r times a row's residual z, and its sum s, a unit of which is q units of w.

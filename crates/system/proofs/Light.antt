@@ -1,18 +1,18 @@
--- Light enough (document 01, "The system") and a residual within its bound as one comparison each: with the
+-- Light enough and a residual within its bound as one comparison each: with the
 -- largest weight, and with the largest residual. Cited by the proofs of `largest_light` and `residual_most`,
 -- by `Searches`, and by callers that need a bound.
 use mathlib.Core.Path.{_≡_, sym, ap, _∙_}
 use mathlib.Core.Bool.{not, Bool·not-not}
 use mathlib.Core.Logic.{_⊎_, inl, inr}
 use Prim.Native.Nat.{ℕ, _*_, _-_, _/_, _^_, _<_, _≤_}
-use native.Mathlib.Nat.{mul-comm, div-le-of-le-mul, mul-le-mul, mul-le-mul-right, mul-pos}
+use native.Mathlib.Nat.{mul-comm, div-div-eq-div-mul, div-le-of-le-mul, mul-le-mul, mul-le-mul-right, mul-pos}
 use native.Mathlib.Omega.{arith}
 use borrow.Author.Tests.{lt-ltb, le-ltb, le-leb, lt-leb}
 use lib.Dec.{leb, ltb}
 use lib.IntN.{ℤ, natAbs}
 use Rattle.integers.proofs.Maximum.{le-or-lt}
 use Rattle.job.specs.Header.{radix, unit, Limits}
-use Rattle.job.proofs.Limits.{radix-least, radix-most, digit-positive, digit-small, unit-most, ltb-quotient}
+use Rattle.job.proofs.Limits.{radix-least, radix-most, digit-positive, bound-room, digit-small, unit-most, ltb-quotient}
 use Rattle.system.specs.Rows.{weight-factor, weight-room, light-enough, residual-kept}
 use Rattle.system.specs.Inner.{largest-light, residual-most}
 use Rattle.job.specs.Rules.{inner-unit, bound-over, bound-under}
@@ -36,19 +36,22 @@ sizes {h} l =
       r-most = radix-most h l;
       p-least = digit-positive h l;
       p-most = digit-small h l;
-      r-p = omega (arith, l .digit-least);
+      r-p = bound-room h l;
       u-most = unit-most h l;
     }
 
 module _ (r p u : ℕ) (s : Sizes r p u) where
-  pub dividend-most : u * (bound-under * p - bound-over * (r - 1)) ≤ 2 ^ 40 * 30
-  dividend-most = let l : bound-under * p - bound-over * (r - 1) ≤ 30 = omega arith in mul-le-mul (s .u-most) l
-
-  pub divisor-most : bound-under * r * p ≤ 480
-  divisor-most = omega (arith, mul-le-mul (s .r-most) (s .p-most))
+  pub dividend-most : u * (bound-under * p - bound-over * (r - 1)) ≤ 2 ^ 40 * 480
+  dividend-most = let l : bound-under * p - bound-over * (r - 1) ≤ 480 = omega arith in mul-le-mul (s .u-most) l
 
   pub divisor-least : 0 < bound-under * r * p
   divisor-least = mul-pos {m = bound-under * r} {n = p} (omega arith) (omega arith)
+
+  -- the three factors of the divisor, taken one by one
+  pub one-by-one : u * (bound-under * p - bound-over * (r - 1)) / bound-under / r / p ≡ u * (bound-under * p - bound-over * (r - 1)) / (bound-under * r * p)
+  one-by-one =
+      let a : ℕ = u * (bound-under * p - bound-over * (r - 1)) in
+      rw (div-div-eq-div-mul a bound-under r) (div-div-eq-div-mul a (bound-under * r) p)
 
   -- the divisor is at least the factor of u
   pub quotient-most : u * (bound-under * p - bound-over * (r - 1)) / (bound-under * r * p) ≤ 2 ^ 40

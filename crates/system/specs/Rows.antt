@@ -6,8 +6,8 @@ use lib.{Dec.leb, IntN.ℤ, IntN.natAbs}
 use Rattle.integers.specs.Sum.{weight}
 use Rattle.job.specs.{Header.radix, Header.unit, Rules.inner-unit, Rules.bound-over, Rules.bound-under, declared.Header.Header}
 
--- Document 01's rule of light rows, 2 × r × p × S at most 2^f × (2p - (r - 1)), where 2 and 1 are the
--- residual bound's: what a weight S is multiplied by, and what that may come to
+-- The rule of light rows, 32 × r × p × S at most 2^f × (32p - 17 × (r - 1)), where 32 and 17 are the residual
+-- bound's: what a weight S is multiplied by, and what that may come to
 abbrev pub weight-factor : Header → ℕ
 weight-factor h = bound-under * radix (h .code) * h .p
 

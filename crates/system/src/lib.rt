@@ -136,11 +136,10 @@ pub fn right_sides(h: Header, v: &[i64]) -> [i64; ROWS]
     z
 }
 
-// The residual bound of document 01, 1/2: residuals stay within OVER / UNDER, and the rule of light rows
-// follows from it.
-const OVER: u64 = 1;
+// The residual bound, 17/32: residuals stay within OVER / UNDER, and the rule of light rows follows from it.
+const OVER: u64 = 17;
 
-const UNDER: u64 = 2;
+const UNDER: u64 = 32;
 
 // The largest residual that is within its bound, at the scale s.
 fn residual_most(h: Header, s: usize) -> i64
@@ -150,14 +149,15 @@ fn residual_most(h: Header, s: usize) -> i64
     integers::to_signed(OVER * integers::pow2(job::inner_bits(h, s)) / UNDER)
 }
 
-// The largest weight that is light enough.
+// The largest weight that is light enough. The divisors are taken one by one: two of them are powers of 2, and
+// the machine shifts.
 fn largest_light(h: Header) -> i64
     requires { ⌜ Limits h ⌝ }
     ensures { λ r. ⌜ r ≡ pos (largest-light h) ⌝ }
 {
-    let r = job::radix(h.code) as u64;
+    let r = integers::pow2(h.code + 1);
     let p = h.p as u64;
-    integers::to_signed(integers::pow2(h.f) * (UNDER * p - OVER * (r - 1)) / (UNDER * r * p))
+    integers::to_signed(integers::pow2(h.f) * (UNDER * p - OVER * (r - 1)) / UNDER / r / p)
 }
 
 // The room that is left after an entry e: its magnitude is taken off, for any i64, since the room before it

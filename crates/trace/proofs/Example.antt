@@ -1,6 +1,6 @@
--- The statements on traces at work on document 01's case A: from each statement alone, every part of it gives
--- a number, a digit or the nine bytes of A's trace. The record that is written has 9 past its rows and steps,
--- which the trace does not hold.
+-- The statements on traces at work on case A with an x of 3: from each statement alone, every part of it
+-- gives a number, a digit or the ten bytes of A's trace. The record that is written has 9 past its rows and
+-- steps, which the trace does not hold.
 use mathlib.Core.Path.{_≡_, refl, sym, ap, _∙_}
 use mathlib.Core.Bool.{true, false}
 use mathlib.Core.List.{[], _∷_}
@@ -27,11 +27,11 @@ use Rattle.trace.proofs.Valid.{record-taken}
 use Rattle.trace.proofs.Theorems.{trace-read-write, trace-read-taken, trace-write-read, trimmed-made, state-trace, trace-sizes}
 use Rattle.trace.proofs.ExamplePastOrder.{record-A, trace-A, spoilt-record-A}
 
--- a state of A's job with the digits of its first four steps; the residuals, in no trace, are those of a load
+-- a state of A's job with the digits of its five steps; the residuals, in no trace, are those of a load
 unfoldable pub state-A : State
 state-A =
-    let s = fresh (record-A .header) (pos 4 ∷ pos 3 ∷ pos 8 ∷ []) in
-    state-of true (record-A .header) (s .scale) 4 (s .g) (s .z) (record-A .digits)
+    let s = fresh (record-A .header) (pos 3 ∷ pos 3 ∷ pos 8 ∷ []) in
+    state-of true (record-A .header) (s .scale) 5 (s .g) (s .z) (record-A .digits)
 
 -- ---- what the definitions give
 
@@ -46,11 +46,11 @@ accepted-A : trace-refusal trace-A ≡ 0
 unfolding trace-A bits number field values-from decode digit-array list-from first-row-from beyond trace-checks
 accepted-A = refl
 
-taken-A : trace-writer-refusal spoilt-record-A 9 ≡ 0
+taken-A : trace-writer-refusal spoilt-record-A 10 ≡ 0
 unfolding record-A digit-array list-from first-row-from beyond trace-writer-checks
 taken-A = refl
 
-last-A : entry (spoilt-record-A .digits) 3 0 ≡ negsuc 0
+last-A : entry (spoilt-record-A .digits) 4 0 ≡ negsuc 0
 unfolding record-A digit-array list-from
 last-A = refl
 
@@ -74,36 +74,36 @@ steps-60-bits = (refl, refl, refl, refl)
 -- ---- what the statements give
 
 module _ (written : TraceReadWrite) (taken : TraceReadTaken) where
-  -- A's trace, read and written, is its nine bytes, for which nine bytes are room enough
-  trace-read-write-A : (write (record-fields (trace-record trace-A)) ≡ trace-A) × (trace-writer-refusal (trace-record trace-A) 9 ≡ 0)
+  -- A's trace, read and written, is its ten bytes, for which ten bytes are room enough
+  trace-read-write-A : (write (record-fields (trace-record trace-A)) ≡ trace-A) × (trace-writer-refusal (trace-record trace-A) 10 ≡ 0)
   unfolding trace-A
-  trace-read-write-A = (written trace-A all-bytes-A accepted-A, taken trace-A 9 accepted-A (omega arith))
+  trace-read-write-A = (written trace-A all-bytes-A accepted-A, taken trace-A 10 accepted-A (omega arith))
 
 module _ (holds : TraceWriteRead) where
-  -- what the record is written as is nine bytes, and read they are the record with 0 for each 9
-  trace-write-read-A : (trace-refusal trace-A ≡ 0) × (trace-record trace-A ≡ trimmed spoilt-record-A) × (length trace-A ≡ 9)
+  -- what the record is written as is ten bytes, and read they are the record with 0 for each 9
+  trace-write-read-A : (trace-refusal trace-A ≡ 0) × (trace-record trace-A ≡ trimmed spoilt-record-A) × (length trace-A ≡ 10)
   unfolding record-A
-  trace-write-read-A = holds spoilt-record-A 9 trace-A taken-A spelt-A
+  trace-write-read-A = holds spoilt-record-A 10 trace-A taken-A spelt-A
 
 module _ (holds : TrimmedMade) where
-  -- trimmed, it has two rows, four steps and -1 for the last digit of row 1, as before, and 0 in step 5
-  trimmed-A : (trimmed spoilt-record-A .header .n ≡ 2) × (trimmed spoilt-record-A .k ≡ 4)
-      × (entry (trimmed spoilt-record-A .digits) 3 0 ≡ negsuc 0) × (entry (trimmed spoilt-record-A .digits) 4 0 ≡ pos 0)
+  -- trimmed, it has two rows, five steps and -1 for the last digit of row 1, as before, and 0 in step 6
+  trimmed-A : (trimmed spoilt-record-A .header .n ≡ 2) × (trimmed spoilt-record-A .k ≡ 5)
+      × (entry (trimmed spoilt-record-A .digits) 4 0 ≡ negsuc 0) × (entry (trimmed spoilt-record-A .digits) 5 0 ≡ pos 0)
   unfolding record-A
   trimmed-A =
-      let x = holds spoilt-record-A (record-taken spoilt-record-A 9 .0 taken-A .0) in (
+      let x = holds spoilt-record-A (record-taken spoilt-record-A 10 .0 taken-A .0) in (
         ap (λ (h : Header). h .n) (sym (x .0 .header)),
         sym (x .0 .steps),
-        sym (x .0 .digits 3 0 (omega arith) (omega arith)) ∙ last-A,
-        x .1 .digits 4 0 (omega arith) (omega arith) (inl (omega arith)),
+        sym (x .0 .digits 4 0 (omega arith) (omega arith)) ∙ last-A,
+        x .1 .digits 5 0 (omega arith) (omega arith) (inl (omega arith)),
       )
 
 module _ (holds : StateTrace) where
-  -- the record of the state is taken with room for nine bytes, and these give it back
-  state-trace-A : (trace-writer-refusal (state-record state-A) 9 ≡ 0) × (trace-refusal trace-A ≡ 0)
+  -- the record of the state is taken with room for ten bytes, and these give it back
+  state-trace-A : (trace-writer-refusal (state-record state-A) 10 ≡ 0) × (trace-refusal trace-A ≡ 0)
       × (trace-record trace-A ≡ state-record state-A)
   unfolding record-A state-A
-  state-trace-A = holds state-A 9 trace-A (recorded-A .0) (omega arith) (recorded-A .1)
+  state-trace-A = holds state-A 10 trace-A (recorded-A .0) (omega arith) (recorded-A .1)
 
 module _ (holds : TraceSizes) where
   -- after 0 steps A's trace has 4 bytes; with 16 rows and 60 steps one has 604; and three bytes are no trace
@@ -118,8 +118,8 @@ module _ (holds : TraceSizes) where
   )
 
 -- the statements are proved
-pub traces-A : (write (record-fields (trace-record trace-A)) ≡ trace-A) × (length trace-A ≡ 9)
-    × (entry (trimmed spoilt-record-A .digits) 3 0 ≡ negsuc 0) × (trace-record trace-A ≡ state-record state-A)
+pub traces-A : (write (record-fields (trace-record trace-A)) ≡ trace-A) × (length trace-A ≡ 10)
+    × (entry (trimmed spoilt-record-A .digits) 4 0 ≡ negsuc 0) × (trace-record trace-A ≡ state-record state-A)
 traces-A = (trace-read-write-A trace-read-write trace-read-taken .0, trace-write-read-A trace-write-read .2, trimmed-A trimmed-made .2, state-trace-A state-trace .2)
 
 pub trace-sizes-A : trace-length (record-A .header) 0 ≡ 4

@@ -6,7 +6,7 @@ use native.Mathlib.Omega.{arith}
 use Rattle.stepping.specs.Steps.{filled}
 use Rattle.stepping.specs.Inner.{digit-from, residual-from}
 use Rattle.stepping.proofs.Stepped.{filled-zero, filled-next}
-use Rattle.stepping.proofs.Turn.{Begun, z-within, s-within, w-within, d-within, digit-stored, residual-stored}
+use Rattle.stepping.proofs.Turn.{Begun, z-within, s-within, w-within, w-bound, d-within, digit-stored, residual-stored}
 use Rattle.stepping.proofs.choice.choose.Statement.{statement}
 use Rattle.stepping.proofs.choice.choose.Tie as tie
 
@@ -46,7 +46,7 @@ shifted-requires c κs = let h = begun (c .before .before) in (h .may .radix, h 
 select-requires : tie.Need-select-requires Inv-loop μ-loop
 select-requires c κs =
     let h = begun (c .before .before .before) in
-    (h .bits, h .may .largest, w-within h _ (c .shifted .ensures))
+    (h .bits, h .may .largest, w-bound h _ (c .shifted .ensures))
 
 narrow-requires : tie.Need-narrow-requires Inv-loop μ-loop
 narrow-requires c κs =

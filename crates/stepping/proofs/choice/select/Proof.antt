@@ -1,20 +1,20 @@
--- The digit of the magnitude, with w's sign.
-use borrow.Author.Needs.{needs}
-use Rattle.stepping.proofs.Chosen.{opposite-fits, select-negative, select-nonnegative}
+-- The digit of the estimate, which is as small as w.
+use Rattle.stepping.proofs.Chosen.{w-within, e-within, select-is}
 use Rattle.stepping.proofs.choice.select.Statement.{statement}
 use Rattle.stepping.proofs.choice.select.Tie as tie
 
-digit-size-requires : tie.Need-digit-size-requires
-digit-size-requires c κs = search needs
+estimate-requires : tie.Need-estimate-requires
+estimate-requires c κs = (c .pre .0, w-within (c .args .w) (c .args .f) (c .args .p) (c .pre .0) (c .pre .1) (c .pre .2))
 
-sub-result : tie.Need-sub-result
-sub-result c = let s = c .before .before in opposite-fits (s .args .w) (s .args .f) (s .args .p) (s .pre .0) (s .pre .2) _ (c .before .digit-size .ensures)
+rounded-requires : tie.Need-rounded-requires
+rounded-requires c κs =
+    let s = c .before in
+    (s .pre .1, e-within (s .args .w) (s .args .f) (s .args .p) (s .pre .0) (s .pre .1) (s .pre .2) _ (c .estimate .ensures))
 
 returns : tie.Need-returns
-returns c = let s = c .before .before in select-negative (s .args .w) (s .args .f) (s .args .p) (s .pre .0) (s .pre .2) _ (c .before .digit-size .ensures) (c .if1 .taken)
-
-returns-2 : tie.Need-returns-2
-returns-2 c = let s = c .before .before in select-nonnegative (s .args .w) (s .args .f) (s .args .p) (s .pre .0) (s .pre .2) _ (c .before .digit-size .ensures) (c .if1 .left)
+returns c =
+    let s = c .before .before in
+    select-is (s .args .w) (s .args .f) (s .args .p) (s .pre .0) (s .pre .1) (s .pre .2) _ (c .before .estimate .ensures) _ (c .rounded .ensures)
 
 pub select-spec : {M : Type 1} → statement M
-select-spec = tie.close (tie.spec digit-size-requires sub-result returns returns-2)
+select-spec = tie.close (tie.spec estimate-requires rounded-requires returns)
