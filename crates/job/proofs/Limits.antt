@@ -211,8 +211,8 @@ module _ (h : Header) (s : ℕ) (k : ScaleLimits h s) where
       pub factor-2 : ¬ s ≡ 0 → ¬ s ≡ 1 → x * x * x ≡ radix (h .code) * scale-factor h s
       factor-2 a b = let z : s ≡ 2 = omega (arith, scale-small, a, b) in rw (e, z) (power-3 (radix (h .code)))
 
-    pub inner-bits : (b : ℕ) → 2 ^ b ≡ scale-factor h s → b ≤ 4 → (2 ^ (h .f + b) ≡ inner-unit h s) × (h .f + b ≤ 44)
-    inner-bits b e m = (pow-add 2 (h .f) b ∙ rw e, omega (arith, l .fraction-most))
+    pub inner-bits : (b : ℕ) → 2 ^ b ≡ scale-factor h s → b ≤ 4 → (2 ^ (h .f + b) ≡ inner-unit h s) × (4 ≤ h .f + b) × (h .f + b ≤ 44)
+    inner-bits b e m = (pow-add 2 (h .f) b ∙ rw e, omega (arith, l .fraction-least), omega (arith, l .fraction-most))
 
     pub scale-factor-most : scale-factor h s ≤ 16
     scale-factor-most = rw (sym (scale-bits .0)) (pow-mono {i = s * digit-bits (h .code)} {j = 4} (scale-bits .1))

@@ -178,7 +178,7 @@ pub fn sum_factor(h: Header, s: usize) -> usize
 // The fraction bits of the residuals inside a state: log2 of the inner unit.
 pub fn inner_bits(h: Header, s: usize) -> usize
     requires { ⌜ Limits h × ScaleLimits h s ⌝ }
-    ensures { λ b. ⌜ (2 ^ b ≡ inner-unit h s) × (b ≤ 44) ⌝ }
+    ensures { λ b. ⌜ (2 ^ b ≡ inner-unit h s) × (4 ≤ b) × (b ≤ 44) ⌝ }
 {
     h.f + scale_bits(h, s)
 }

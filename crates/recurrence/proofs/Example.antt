@@ -1,29 +1,26 @@
 -- The estimate and the choice in numbers, and two systems after document 01's cases, with every hypothesis of
 -- the distance met and the numbers computed: the theorems speak of something, and the definitions give what
 -- the documents say. The systems have unit 16, radix 2 and largest digit 1.
-use mathlib.Core.Path.{_≡_, refl, ap, _∙_}
+use mathlib.Core.Path.{_≡_, refl}
 use mathlib.Core.List.{[], _∷_, map}
-use Prim.Native.Nat.{ℕ, suc, _+_, _*_, _/_, _<_, _≤_, _^_}
+use Prim.Native.Nat.{ℕ, _+_, _*_, _<_, _≤_, _^_}
 use native.Mathlib.Omega.{arith}
 use lib.Dec.{lit≤}
 use lib.ListN.{getD}
-use lib.IntN.{ℤ, pos, negsuc, negℤ, natAbs, _-ℤ_, _*ℤ_}
+use lib.IntN.{ℤ, pos, negsuc, natAbs, _-ℤ_, _*ℤ_}
 use lib.Signed.{_≤ℤ_, _<ℤ_}
 use Rattle.integers.specs.Sum.{sum, total, dot, weight}
 use Rattle.integers.proofs.Maximum.{below-suc}
 use Rattle.job.specs.Rules.{bound-over, bound-under}
 use Rattle.recurrence.specs.Recurrence.{Solves, Selects, cut-down, estimate, digit-size, rounded, select, shifted, next-digit, next-residual, digit, reading, digit-sum, Light, LightRows}
-use Rattle.recurrence.proofs.Selection.{estimate-above, estimate-below, estimate-floor}
+use Rattle.recurrence.proofs.Selection.{estimate-exact, estimate-floor}
 use Rattle.recurrence.proofs.Theorems.{reading-sum, select-distance}
 
 -- ---- the estimate: at unit 16, which has fewer fraction bits, it is w itself; at unit 64, 33 and -33 are both
 -- cut down, and the floor is no lower than a part below
 
-exact : (w : ℤ) → estimate 16 w ≡ pos 2 *ℤ w
-exact (pos a) = estimate-above 16 a ∙ ap pos (omega arith)
-exact (negsuc a) =
-    let e : suc ((32 * a + 31) / 16) ≡ 2 * suc a = omega arith in
-    estimate-below 16 a ∙ ap (λ (n : ℕ). negℤ (pos n)) e
+exact : estimate 16 (negsuc 6) ≡ negsuc 13
+exact = estimate-exact (negsuc 6)
 
 cut : map (estimate 64) (pos 33 ∷ negsuc 32 ∷ []) ≡ pos 16 ∷ negsuc 16 ∷ []
 unfolding estimate cut-down

@@ -41,6 +41,13 @@ pub estimate-below : (u a : ℕ) → estimate u (negsuc a) ≡ negsuc ((32 * a +
 unfolding estimate cut-down
 estimate-below u a = rw (parts-below a)
 
+-- with four fraction bits it is w itself
+pub estimate-exact : (w : ℤ) → estimate 16 w ≡ pos 2 *ℤ w
+estimate-exact (pos a) = estimate-above 16 a ∙ ap pos (omega arith)
+estimate-exact (negsuc a) =
+    let e : suc ((32 * a + 31) / 16) ≡ 2 * suc a = omega arith in
+    estimate-below 16 a ∙ ap (λ (n : ℕ). negℤ (pos n)) e
+
 pub estimate-floor : EstimateFloor
 estimate-floor u (pos a) h = rw (estimate-above u a) (by (32 * a / u) (32 * a % u) (div-add-mod (32 * a) u) (mod-lt (32 * a) h))
   where

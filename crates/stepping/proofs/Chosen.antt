@@ -4,12 +4,12 @@
 use mathlib.Core.Path.{_≡_, refl, sym, ap, ap₂, _∙_}
 use mathlib.Core.Bool.{Bool, true, false, cond}
 use mathlib.Core.Logic.{_⊎_, inl, inr}
-use Prim.Native.Nat.{ℕ, suc, _+_, _*_, _/_, _^_, _<_, _≤_}
-use native.Mathlib.Nat.{mul-le-mul}
+use Prim.Native.Nat.{ℕ, suc, _+_, _*_, _-_, _/_, _^_, _<_, _≤_}
+use native.Mathlib.Nat.{mul-le-mul, div-div-eq-div-mul}
 use native.Mathlib.Omega.{arith}
 use borrow.Author.Tests.{lt-ltb, le-ltb}
 use lib.IntN.{ℤ, pos, negsuc, negℤ, natAbs, _+ℤ_, _-ℤ_, _*ℤ_, +ℤ-idl}
-use lib.Pow.{pow-mono, pow-pos}
+use lib.Pow.{pow-add, pow-mono, pow-pos}
 use lib.Signed.{ltZ, quotZ, shrZ}
 use mir.Syntax.{w64}
 use mir.Val.{SFits, toZ, ofZ}
@@ -18,8 +18,8 @@ use Rattle.integers.specs.Sum.{Within}
 use Rattle.integers.proofs.Machine.{Machine, known, bounded, cast, machs, machine-fits, machine-eq, machine-test}
 use Rattle.integers.proofs.Maximum.{le-or-lt}
 use Rattle.integers.proofs.Order.{zarith}
-use Rattle.recurrence.specs.Recurrence.{cut-down, estimate, digit-size, rounded, select}
-use Rattle.recurrence.proofs.Selection.{digit-size-round, digit-size-cut, estimate-small, select-selects}
+use Rattle.recurrence.specs.Recurrence.{estimate, digit-size, rounded, select}
+use Rattle.recurrence.proofs.Selection.{digit-size-round, digit-size-cut, estimate-above, estimate-below, estimate-exact, estimate-small, select-selects}
 use Rattle.stepping.specs.Inner.{lesser, greater}
 
 -- ---- the unit
@@ -33,19 +33,29 @@ unit-value f h one e = known one (pos (2 ^ f)) (2 ^ 44) e (unit-within f h)
 
 -- ---- the estimate
 
--- a shift cuts down
-shift-is-cut : (u : ℕ) (z : ℤ) → shrZ z u ≡ cut-down u z
-unfolding cut-down
-shift-is-cut u (pos a) = refl
-shift-is-cut u (negsuc a) = refl
+-- 32 v is the unit: a shift by five digits fewer cuts down to 32nds of it
+of-part : (v : ℕ) (w : ℤ) → shrZ w v ≡ estimate (32 * v) w
+of-part v (pos a) =
+    let e : 32 * a / 32 ≡ a = omega arith in
+    ap pos (ap (λ (n : ℕ). n / v) (sym e) ∙ div-div-eq-div-mul (32 * a) 32 v) ∙ sym (estimate-above (32 * v) a)
+of-part v (negsuc a) =
+    let e : (32 * a + 31) / 32 ≡ a = omega arith in
+    ap negsuc (ap (λ (n : ℕ). n / v) (sym e) ∙ div-div-eq-div-mul (32 * a + 31) 32 v) ∙ sym (estimate-below (32 * v) a)
+
+of-bits : (f : ℕ) (w : ℤ) → 5 ≤ f → shrZ w (2 ^ (f - 5)) ≡ estimate (2 ^ f) w
+of-bits f w h =
+    let e : 5 + (f - 5) ≡ f = omega arith in
+    of-part (2 ^ (f - 5)) w ∙ ap (λ (u : ℕ). estimate u w) (sym (pow-add 2 5 (f - 5)) ∙ ap (λ (n : ℕ). 2 ^ n) e)
 
 module _ (w : ℤ) (f : ℕ) (hw : Within w (2 ^ 49)) where
-  pub parts-fit : SFits w64 (pos 32 *ℤ toZ w64 (ofZ w64 w))
-  parts-fit = machine-fits (search machs depth 9) tt
+  pub double-fits : SFits w64 (pos 2 *ℤ toZ w64 (ofZ w64 w))
+  double-fits = machine-fits (search machs depth 9) tt
 
-  pub estimate-is : toZ w64 (ofZ w64 (shrZ (toZ w64 (ofZ w64 (pos 32 *ℤ toZ w64 (ofZ w64 w)))) (2 ^ f))) ≡ estimate (2 ^ f) w
-  unfolding estimate
-  estimate-is = machine-eq (search machs depth 9) tt (shift-is-cut (2 ^ f) (pos 32 *ℤ w))
+  pub double-is : f ≡ 4 → toZ w64 (ofZ w64 (pos 2 *ℤ toZ w64 (ofZ w64 w))) ≡ estimate (2 ^ f) w
+  double-is e = machine-eq (search machs depth 9) tt (sym (estimate-exact w) ∙ ap (λ (n : ℕ). estimate (2 ^ n) w) (sym e))
+
+  pub shift-is : 5 ≤ f → toZ w64 (ofZ w64 (shrZ (toZ w64 (ofZ w64 w)) (2 ^ (f - 5)))) ≡ estimate (2 ^ f) w
+  shift-is h = machine-eq (search machs depth 9) tt (of-bits f w h)
 
 -- ---- the lesser and the greater
 

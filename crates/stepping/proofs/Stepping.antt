@@ -113,8 +113,8 @@ module _ {s : State} {r q bits : ℕ} {before chosen sums : List ℤ} (a : MaySt
   step-limits : KeepsLimits n r (state-factor s) p u (s .g) (s .z) before
   step-limits = rw (a .radix-is, a .bits-are .0) (first-limits (a .may .passes) (a .between .last))
 
-  pub may-choose : (bits ≤ 44) × MayChoose n r q p u (s .z) sums
-  may-choose = (a .bits-are .1, rw (a .units-are) (may-choose-from step-limits (a .between .summed)))
+  pub may-choose : (4 ≤ bits) × (bits ≤ 44) × MayChoose n r q p u (s .z) sums
+  may-choose = (a .bits-are .1, a .bits-are .2, rw (a .units-are) (may-choose-from step-limits (a .between .summed)))
 
   -- `new` has what `choose` left in the vector being chosen
   module _ {new : List ℤ} (ec : new ≡ filled (digit-from r q p u (s .z) sums) chosen n) where
@@ -181,7 +181,7 @@ module _ {s : State} {made j : ℕ} {ds z before chosen sums : List ℤ} (b : Ma
       }
 
   -- one more can be made of it
-  pub reached-may : (r q bits : ℕ) → r ≡ radix (s .header .code) → q ≡ radix (s .header .code) * state-factor s → (2 ^ bits ≡ state-unit s) × (bits ≤ 44)
+  pub reached-may : (r q bits : ℕ) → r ≡ radix (s .header .code) → q ≡ radix (s .header .code) * state-factor s → (2 ^ bits ≡ state-unit s) × (4 ≤ bits) × (bits ≤ 44)
       → MayStepOnce now-is r q bits before chosen sums
   reached-may r q bits e o f =
       rw whole
@@ -189,7 +189,7 @@ module _ {s : State} {made j : ℕ} {ds z before chosen sums : List ℤ} (b : Ma
         may = left;
         radix-is = e ∙ rw (steps-header s j) refl;
         units-are = o ∙ rw (e, steps-header s j, steps-scale s j) refl;
-        bits-are = (f .0 ∙ rw (steps-header s j, steps-scale s j) refl, f .1);
+        bits-are = (f .0 ∙ rw (steps-header s j, steps-scale s j) refl, f .1, f .2);
         between = h .between;
       })
 

@@ -23,7 +23,7 @@ use Rattle.stepping.proofs.Stepped.{filled-past}
 -- A turn for row i: `v` are the residuals as the loop has them, those of the rows below i new and the
 -- others still z's.
 pub record Begun (z s : List ℤ) (n r q p f i : ℕ) (v : List ℤ) : Type 0 where
-  pub bits : f ≤ 44
+  pub bits : (4 ≤ f) × (f ≤ 44)
   pub may : MayChoose n r q p (2 ^ f) z s
   pub below : i < n
   pub so-far : v ≡ filled (residual-from r q p (2 ^ f) z s) z i
@@ -41,7 +41,7 @@ module _ {z s : List ℤ} {n r q p f i : ℕ} {v : List ℤ} (h : Begun z s n r 
 
   -- and how large they are
   unit-bound : 2 ^ f ≤ 2 ^ 44
-  unit-bound = unit-within f (h .bits)
+  unit-bound = unit-within f (h .bits .1)
 
   W-bound : bound-under * natAbs W ≤ (bound-under * p + bound-over) * 2 ^ f
   W-bound = h .may .bound i (h .below)

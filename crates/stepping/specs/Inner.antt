@@ -163,7 +163,7 @@ pub record MayStepOnce (s : State) (r q bits : ℕ) (before chosen sums : List �
   pub may : MayStep s 1
   pub radix-is : r ≡ radix (s .header .code)
   pub units-are : q ≡ r * state-factor s
-  pub bits-are : (2 ^ bits ≡ state-unit s) × (bits ≤ 44)
+  pub bits-are : (2 ^ bits ≡ state-unit s) × (4 ≤ bits) × (bits ≤ 44)
   pub between : Between s before chosen sums
 
 -- what it leaves: the residuals z and the digits ds of the state a step further, the vector chosen, and the

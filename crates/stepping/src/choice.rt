@@ -19,13 +19,13 @@ fn unit(f: usize) -> i64
     integers::to_signed(integers::pow2(f))
 }
 
-// The estimate of w in 32nds of a unit: 32 w over the unit, cut down. A shift rounds downward, for a negative
-// number too.
+// The estimate of w in 32nds of a unit: w cut down to five fraction bits. A shift rounds downward, for a
+// negative number too. With four fraction bits, the fewest that there are, nothing is cut.
 fn estimate(w: i64, f: usize) -> i64
-    requires { ⌜ (f ≤ 44) × Within w (2 ^ 49) ⌝ }
+    requires { ⌜ (4 ≤ f) × (f ≤ 44) × Within w (2 ^ 49) ⌝ }
     ensures { λ e. ⌜ e ≡ estimate (2 ^ f) w ⌝ }
 {
-    (32 * w) >> f
+    if f == 4 { 2 * w } else { w >> (f - 5) }
 }
 
 // The lesser of two numbers.
@@ -58,10 +58,11 @@ fn rounded(e: i64, p: usize) -> i64
 
 // The digit that is taken off w.
 fn select(w: i64, f: usize, p: usize) -> i64
-    requires { ⌜ (f ≤ 44) × (p ≤ 15) × (bound-under * natAbs w ≤ (bound-under * p + bound-over) * 2 ^ f) ⌝ }
+    requires { ⌜ (4 ≤ f) × (f ≤ 44) × (p ≤ 15) × (bound-under * natAbs w ≤ (bound-under * p + bound-over) * 2 ^ f) ⌝ }
     ensures { λ q. ⌜ q ≡ select p (2 ^ f) w ⌝ }
 {
-    rounded(estimate(w, f), p)
+    let e = estimate(w, f);
+    rounded(e, p)
 }
 
 // Document 01's w: r times a row's residual z, and its sum s, a unit of which is q units of w.
@@ -93,7 +94,7 @@ pub fn choose(
     f: usize,
     p: usize,
 )
-    requires { ⌜ (f ≤ 44) × MayChoose n r q p (2 ^ f) (now z) (now s) ⌝ }
+    requires { ⌜ (4 ≤ f) × (f ≤ 44) × MayChoose n r q p (2 ^ f) (now z) (now s) ⌝ }
     ensures digits { λ _. ⌜ now (new .exit) ≡ filled (digit-from r q p (2 ^ f) (now (z .entry)) (now (s .entry))) (now (new .entry)) n ⌝ }
     ensures residuals { λ _. ⌜ now (z .exit) ≡ filled (residual-from r q p (2 ^ f) (now (z .entry)) (now (s .entry))) (now (z .entry)) n ⌝ }
 {

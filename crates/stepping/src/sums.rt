@@ -75,13 +75,18 @@ pub fn row_ends(g: &[i64; ENTRIES], n: usize) -> [usize; ROWS]
 
 // The sum of row i's entries times the digits, over the columns below n. Past column 0 only those from lo
 // on and below hi are looked at: the entries in the others are 0. A polynomial's row has one entry, and a
-// rational curve's one more, in column 0.
+// rational curve's one more, in column 0; so the first past column 0 stands before the loop, which then has
+// nothing left to do.
 fn row_sum(g: &[i64; ENTRIES], i: usize, n: usize, lo: usize, hi: usize, d: &[i8; ROWS]) -> i64
     requires { ⌜ MaySum (now g) i n (now d) × Span (entry (now g) i) n lo hi ⌝ }
     ensures { λ s. ⌜ s ≡ dot n (entry (now (g .entry)) i) (at (now (d .entry))) ⌝ }
 {
     let mut s = g[16 * i] * integers::widen(d[0]);
-    let mut j = lo;
+    if hi <= lo {
+        return s;
+    }
+    s = s + g[16 * i + lo] * integers::widen(d[lo]);
+    let mut j = lo + 1;
     while j < hi {
         s = s + g[16 * i + j] * integers::widen(d[j]);
         j += 1;

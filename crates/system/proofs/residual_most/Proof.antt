@@ -16,7 +16,7 @@ pow2-requires : tie.Need-pow2-requires
 pow2-requires c κs = search needs
 
 few : (c : tie.After-pow2) → c .pow2 .result ≤ 2 ^ 44
-few c = rw (c .pow2 .ensures) (pow-mono {j = 44} (c .before .inner-bits .ensures .1))
+few c = rw (c .pow2 .ensures) (pow-mono {j = 44} (c .before .inner-bits .ensures .2))
 
 mul-to-signed : tie.Need-mul-to-signed
 mul-to-signed c = omega (arith, few c)

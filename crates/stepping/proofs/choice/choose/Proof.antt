@@ -38,7 +38,7 @@ begun : (c : tie.In-loop Inv-loop μ-loop) → let s = c .before .before in
     Begun (s .args .z .now) (s .args .s .now) (s .args .n) (s .args .r) (s .args .q) (s .args .p) (s .args .f) (c .before .loop .i) (c .before .loop .z)
 begun c =
     let s = c .before .before in
-    record { bits = s .pre .0; may = s .pre .1; below = c .loop-test .taken; so-far = c .before .loop .inv .1 }
+    record { bits = (s .pre .0, s .pre .1); may = s .pre .2; below = c .loop-test .taken; so-far = c .before .loop .inv .1 }
 
 shifted-requires : tie.Need-shifted-requires Inv-loop μ-loop
 shifted-requires c κs = let h = begun (c .before .before) in (h .may .radix, h .may .units, z-within h, s-within h)
@@ -46,7 +46,7 @@ shifted-requires c κs = let h = begun (c .before .before) in (h .may .radix, h 
 select-requires : tie.Need-select-requires Inv-loop μ-loop
 select-requires c κs =
     let h = begun (c .before .before .before) in
-    (h .bits, h .may .largest, w-bound h _ (c .shifted .ensures))
+    (h .bits .0, h .bits .1, h .may .largest, w-bound h _ (c .shifted .ensures))
 
 narrow-requires : tie.Need-narrow-requires Inv-loop μ-loop
 narrow-requires c κs =
@@ -60,7 +60,7 @@ residual-after-requires : tie.Need-residual-after-requires Inv-loop μ-loop
 residual-after-requires c κs =
     let h = begun (c .before .before .before .before .before) in
     let w = c .before .before .shifted .ensures in
-    (h .bits, w-within h _ w, d-within h _ w _ (c .before .select .ensures) (omega arith))
+    (h .bits .1, w-within h _ w, d-within h _ w _ (c .before .select .ensures) (omega arith))
 
 mul-t13 : tie.Need-mul-t13 Inv-loop μ-loop
 mul-t13 c = omega arith

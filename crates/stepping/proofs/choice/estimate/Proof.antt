@@ -1,11 +1,15 @@
--- 32 w fits, and is shifted.
+-- From five fraction bits on a shift, and with four a product.
+use native.Mathlib.Omega.{arith}
 use borrow.Author.Needs.{needs}
-use Rattle.stepping.proofs.Chosen.{parts-fit, estimate-is}
+use Rattle.stepping.proofs.Chosen.{double-fits, double-is, shift-is}
 use Rattle.stepping.proofs.choice.estimate.Statement.{statement}
 use Rattle.stepping.proofs.choice.estimate.Tie as tie
 
 mul-result : tie.Need-mul-result
-mul-result c = parts-fit (c .args .w) (c .args .f) (c .pre .1)
+mul-result c = let s = c .before in double-fits (s .args .w) (s .args .f) (s .pre .2)
+
+sub-result : tie.Need-sub-result
+sub-result c = search needs
 
 cast-result : tie.Need-cast-result
 cast-result c = search needs
@@ -14,7 +18,10 @@ shr-result : tie.Need-shr-result
 shr-result c = search needs
 
 returns : tie.Need-returns
-returns c = estimate-is (c .args .w) (c .args .f) (c .pre .1)
+returns c = let s = c .before in double-is (s .args .w) (s .args .f) (s .pre .2) (c .if1 .taken)
+
+returns-2 : tie.Need-returns-2
+returns-2 c = let s = c .before in shift-is (s .args .w) (s .args .f) (s .pre .2) (omega (arith, s .pre .0, c .if1 .left))
 
 pub estimate-spec : {M : Type 1} → statement M
-estimate-spec = tie.close (tie.spec mul-result cast-result shr-result returns)
+estimate-spec = tie.close (tie.spec mul-result sub-result cast-result shr-result returns returns-2)
