@@ -4,7 +4,7 @@ use mathlib.Core.Path.{_≡_, refl}
 use mathlib.Core.List.{List, [], _∷_}
 use Prim.Native.Nat.{ℕ, zero, suc, _*_, _<_}
 use native.Mathlib.Omega.{arith}
-use lib.IntN.{ℤ, pos, natAbs, _-ℤ_, _*ℤ_}
+use lib.IntN.{pos, natAbs, _-ℤ_, _*ℤ_}
 use Rattle.integers.specs.Flat.{at, list-from, stores}
 use Rattle.integers.specs.Sum.{dot, weight, sum, total}
 use Rattle.bitfields.specs.Layout.{field, number, bits, values-from}

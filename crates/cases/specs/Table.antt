@@ -169,7 +169,7 @@ table =
     accepted (1 ∷ 16 ∷ 122 ∷ 12 ∷ 146 ∷ 0 ∷ []) 1 (pos 3 ∷ pos 9 ∷ pos 8 ∷ []) (pos 378302368699121664 ∷ pos 288230376151711744 ∷ [])
     ((pos 1 ∷ minus 1 ∷ pos 1 ∷ minus 1 ∷ pos 1 ∷ minus 1 ∷ replicate 54 (pos 0)) ∷ (pos 1 ∷ minus 1 ∷ replicate 58 (pos 0)) ∷ [])
     (1 ∷ 16 ∷ 122 ∷ 240 ∷ 33 ∷ 255 ∷ 194 ∷ 15 ∷ 128 ∷ 32 ∷ 248 ∷ replicate 68 0) 32 (pos 21 ∷ pos 16 ∷ []) ∷
-    refused (1 ∷ 16 ∷ 123 ∷ 12 ∷ 146 ∷ 0 ∷ []) 15 0 ∷  -- the edge of m + 1 + s at r 2: A with x 3, m 59 and p_0 9
+    refused (1 ∷ 16 ∷ 123 ∷ 12 ∷ 146 ∷ 0 ∷ []) 15 0 ∷  -- the edge of m + 1 + s at r 2: m 59 and p_0 9
     refused (1 ∷ 16 ∷ 123 ∷ 20 ∷ 146 ∷ 0 ∷ []) 8 1 ∷  -- the same with x 5: 8 comes before 15
     -- the edge of m + 1 + s at r 16: p 8, x 0, p_0 9 and p_1 8, m 13, which has 15 steps
     accepted (56 ∷ 16 ∷ 77 ∷ 0 ∷ 146 ∷ 0 ∷ []) 1 (pos 0 ∷ pos 9 ∷ pos 8 ∷ []) (pos 40532396646334464 ∷ pos 36028797018963968 ∷ [])

@@ -1,12 +1,11 @@
 -- The absolute value, `natAbs`, a natural number: the triangle inequality and its like, products, and bounds.
 use mathlib.Core.Path.{_≡_, refl}
-use mathlib.Core.Bool.{true, false}
 use Prim.Native.Nat.{ℕ, zero, suc, _+_, _*_, _-_, _<_, _≤_}
 use native.Mathlib.Nat.{mul-le-mul}
 use native.Mathlib.Omega.{arith}
 use lib.Dec.{ltb, ltb→lt}
 use lib.IntN.{ℤ, pos, negsuc, negℤ, natAbs, subℕ, _+ℤ_, _-ℤ_, _*ℤ_}
-use lib.Signed.{ltZ, _<ℤ_}
+use lib.Signed.{_<ℤ_}
 use Rattle.integers.proofs.Parts.{posPart, negPart, cond-both, parts-add, posPart-neg, negPart-neg}
 use Rattle.integers.proofs.Order.{zarith}
 
@@ -59,14 +58,6 @@ abs-le e (pos n) B h k = omega arith
 abs-le e (negsuc n) B h k = omega arith
 
 -- ---- by the sign
-
-pub abs-negative : (z : ℤ) → ltZ z (pos 0) ≡ true → negℤ z ≡ pos (natAbs z)
-abs-negative (pos n) h = absurd (omega (zarith, h))
-abs-negative (negsuc n) h = refl
-
-pub abs-nonnegative : (z : ℤ) → ltZ z (pos 0) ≡ false → z ≡ pos (natAbs z)
-abs-nonnegative (pos n) h = refl
-abs-nonnegative (negsuc n) h = absurd (omega (zarith, h))
 
 -- a number above 0 is its absolute value, which is above 0
 pub positive-abs : {z : ℤ} → pos 0 <ℤ z → pos (natAbs z) ≡ z

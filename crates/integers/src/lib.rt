@@ -2,7 +2,7 @@
 // specs/ sums, products and arrays, and in proofs/ the laws that proofs about them need. proofs/Guide.antt
 // shows the ring normaliser, linear inequalities and machine arithmetic at work, a line each.
 ghost use mathlib.Core.Path.{_≡_};
-ghost use Prim.Native.Nat.{_/_, _<_, _^_};
+ghost use Prim.Native.Nat.{_<_, _^_};
 ghost use lib.IntN.{pos, natAbs};
 ghost use lib.Signed.{_≤ℤ_};
 ghost use Rattle.integers.specs.Sum.{Within};
@@ -44,14 +44,6 @@ pub fn pow2(n: usize) -> u64
     ensures { λ r. ⌜ r ≡ 2 ^ n ⌝ }
 {
     1u64 << (n as u64)
-}
-
-// Half of 2 to the n; of 2 to the 0, which has no half, 0.
-pub fn half_pow2(n: usize) -> i64
-    requires { ⌜ n < 63 ⌝ }
-    ensures { λ r. ⌜ r ≡ pos (2 ^ n / 2) ⌝ }
-{
-    to_signed(pow2(n) / 2)
 }
 
 // |z|. The smallest i64 has no negation, so 1 is added last.

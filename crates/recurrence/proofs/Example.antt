@@ -16,8 +16,8 @@ use Rattle.recurrence.specs.Recurrence.{Solves, Selects, cut-down, estim
 use Rattle.recurrence.proofs.Selection.{estimate-exact, estimate-floor}
 use Rattle.recurrence.proofs.Theorems.{reading-sum, select-distance}
 
--- ---- the estimate: at unit 16, which has fewer fraction bits, it is w itself; at unit 64, 33 and -33 are both
--- cut down, and the floor is no lower than a part below
+-- ---- the estimate: at unit 16, which has fewer fraction bits, it is w itself; at unit 64, 33 and -33 are
+-- both cut down, and the floor is less than a part below
 
 exact : estimate 16 (negsuc 6) ≡ negsuc 13
 exact = estimate-exact (negsuc 6)
@@ -30,8 +30,8 @@ floor-below : (negsuc 1087 ≤ℤ negsuc 1055) × (negsuc 1055 <ℤ negsuc 1023)
 unfolding estimate cut-down
 floor-below = estimate-floor 64 (negsuc 32) (omega arith)
 
--- ---- the choice, at unit 16 and largest digit 1: ties away from zero on both sides, just under a tie, and no
--- rounding up above 1
+-- ---- the choice, at unit 16 and largest digit 1: ties away from zero on both sides, just under a tie, and
+-- no rounding up above 1
 
 ties : map (select 1 16) (pos 8 ∷ negsuc 7 ∷ []) ≡ pos 1 ∷ negsuc 0 ∷ []
 unfolding select rounded estimate cut-down digit-size
@@ -45,8 +45,8 @@ above-1 : map (select 1 16) (pos 24 ∷ negsuc 23 ∷ []) ≡ pos 1 ∷ negsuc 0
 unfolding select rounded estimate cut-down digit-size
 above-1 = refl
 
--- At unit 64 the estimate of -31, just above -1/2, is -1/2, and its digit -1; that of 31 is below 1/2, and its
--- digit 0. So -31 leaves 33/64, and residuals are not kept to 1/2.
+-- At unit 64 the estimate of -31, just above -1/2, is -1/2, and its digit -1; that of 31 is below 1/2, and
+-- its digit 0. So -31 leaves 33/64, and residuals are not kept to 1/2.
 just-above : map (select 1 64) (negsuc 30 ∷ pos 31 ∷ []) ≡ negsuc 0 ∷ pos 0 ∷ []
 unfolding select rounded estimate cut-down digit-size
 just-above = refl

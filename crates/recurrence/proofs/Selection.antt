@@ -1,8 +1,8 @@
 -- The estimate, what document 01's rule gives of it, and that the choice is a rule of selection.
-use mathlib.Core.Path.{_≡_, refl, sym, ap, _∙_}
+use mathlib.Core.Path.{_≡_, refl, ap, _∙_}
 use mathlib.Core.List.{List, [], _∷_}
 use mathlib.Core.Logic.{_⊎_, inl, inr}
-use Prim.Native.Nat.{ℕ, zero, suc, _+_, _*_, _<_, _≤_, _/_, _%_}
+use Prim.Native.Nat.{ℕ, suc, _+_, _*_, _<_, _≤_, _/_, _%_}
 use native.Mathlib.Nat.{div-add-mod, mod-lt, mul-le-mul-left, div-lt-iff-lt-mul}
 use native.Mathlib.Omega.{arith}
 use borrow.Author.Tests.{le-leb, lt-leb}

@@ -75,8 +75,8 @@ unfoldable pub estimate : (u : ℕ) (w : ℤ) → ℤ
 estimate u w = cut-down u (pos unit-parts *ℤ w)
 
 -- Document 01's rule, applied to the estimate. The digit of an estimate's magnitude a, in parts: the nearest
--- whole number of units, a tie up, while a is at most p units; past that, a cut to whole units, as rounding up
--- could give p + 1. The nearest is a and half a unit, cut.
+-- whole number of units, a tie up, while a is at most p units; past that, a cut to whole units, as rounding
+-- up could give p + 1. The nearest is a and half a unit, cut.
 unfoldable pub digit-size : (p a : ℕ) → ℕ
 digit-size p a = cond (leb a (p * unit-parts)) ((a + unit-parts / 2) / unit-parts) (a / unit-parts)
 

@@ -1,7 +1,7 @@
 -- The theorems on the recurrence, over any radix r, largest digit p, unit u, matrix G, right-hand sides B
--- and residual bound c / e, which is 17/32 for the choice by an estimate. `Identity` and `Distance` hold of every run,
--- whatever rule chose its digits. Each has its proof in proofs/, `identity` that of `Identity` and so on,
--- for all that the statement names before its equals sign.
+-- and residual bound c / e, which is 17/32 for the choice by an estimate. `Identity` and `Distance` hold of
+-- every run, whatever rule chose its digits. Each has its proof in proofs/, `identity` that of `Identity` and
+-- so on, for all that the statement names before its equals sign.
 use mathlib.Core.{Path._≡_, Logic._↔_}
 use Prim.Native.Nat.{ℕ, _*_, _-_, _^_, _<_, _≤_}
 use lib.{IntN.ℤ, IntN.pos, IntN.natAbs, IntN._+ℤ_, IntN._-ℤ_, IntN._*ℤ_, Signed._≤ℤ_, Signed._<ℤ_}
@@ -32,7 +32,7 @@ abbrev pub LightRule : Type 0
 LightRule =
     (r p u c e S : ℕ) → 1 ≤ r → c * (r - 1) ≤ e * p → Light r p u c e S ↔ (e * r * p * S ≤ u * (e * p - c * (r - 1)))
 
--- The estimate is w cut down to a whole number of parts: less than one part is left out, and never below it.
+-- The estimate is w cut down to whole parts: it is never above w, and less than a part below it.
 abbrev pub EstimateFloor : Type 0
 EstimateFloor =
     (u : ℕ) (w : ℤ) → 0 < u →

@@ -41,8 +41,8 @@ digit-refused : (refusal-of (with-digit 1 0 (negsuc 0)) ≡ 0)
 unfolding breaks-limit fresh beyond first-row-from weight total list-from matrix curve-entry right-side
 digit-refused = (refl, refl, refl, refl)
 
--- the same with p_0 9, as in document 01's case E: its scale is 1, its z is the numbers sent, and six steps may
--- be made of it, and no more
+-- the same with p_0 9, as in document 01's case E: its scale is 1, its z is the numbers sent, and six steps
+-- may be made of it, and no more
 abbrev high : State
 high = fresh (record { kind = 0; code = 0; p = 1; f = 4; n = 2; m = 4 }) (pos 3 ∷ pos 9 ∷ pos 8 ∷ [])
 

@@ -1,6 +1,6 @@
--- The choice of a digit as the code makes it: the unit as bits, the shift that gives the estimate, its rounding
--- by one signed division, and what the digit leaves. Cited by the proofs of `unit`, `estimate`, `rounded`,
--- `select` and `residual_after`.
+-- The choice of a digit as the code makes it: the unit as bits, the shift that gives the estimate, its
+-- rounding by one signed division, and what the digit leaves. Cited by the proofs of `unit`, `estimate`,
+-- `lesser`, `greater`, `rounded`, `select` and `residual_after`.
 use mathlib.Core.Path.{_≡_, refl, sym, ap, ap₂, _∙_}
 use mathlib.Core.Bool.{Bool, true, false, cond}
 use mathlib.Core.Logic.{_⊎_, inl, inr}

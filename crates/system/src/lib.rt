@@ -149,8 +149,8 @@ fn residual_most(h: Header, s: usize) -> i64
     integers::to_signed(OVER * integers::pow2(job::inner_bits(h, s)) / UNDER)
 }
 
-// The largest weight that is light enough. The divisors are taken one by one: two of them are powers of 2, and
-// the machine shifts.
+// The largest weight that is light enough. The divisors are taken one by one: two of them are powers of 2,
+// and the machine shifts.
 fn largest_light(h: Header) -> i64
     requires { ⌜ Limits h ⌝ }
     ensures { λ r. ⌜ r ≡ pos (largest-light h) ⌝ }
