@@ -1,5 +1,5 @@
 -- The table of products with -1, 0 and 1: how it is filled, and sums over its columns. Cited by the proofs
--- of `products`, `column_place`, `add_column` and `column_sums`.
+-- of `place_column`, `products`, `column_place`, `add_column` and `column_sums`.
 use mathlib.Core.Path.{_≡_, refl, sym, ap, _∙_}
 use mathlib.Core.List.{List, [], _∷_}
 use mathlib.Core.Logic.{_⊎_, inl, inr}
@@ -23,36 +23,36 @@ use Rattle.integers.specs.Flat.{at, entry}
 use Rattle.integers.specs.Sum.{dot, weight}
 use Rattle.integers.proofs.Product.{dot-suc, dot-ext, abs-dot, weight-le}
 use Rattle.stepping.specs.Steps.{filled}
-use Rattle.stepping.specs.Inner.{cell, table-row, Table, Products, Signs, TableSums, Summed, MayTabulate, MayAdd, added}
+use Rattle.stepping.specs.Inner.{cell, table-row, Tabulated, Table, Products, Signs, TableSums, Summed, MayTabulate, MayAdd, added}
 use Rattle.stepping.proofs.Stepped.{length-filled, filled-past, filled-row}
 
 -- ---- filling it
 
--- the cells below e stand in the first and the last block, and the one between has zeros
-pub record Begun (n : ℕ) (g t : List ℤ) (e : ℕ) : Type 0 where
-  pub size : length t ≡ 768
-  pub negatives : (k : ℕ) → k < e → at t k ≡ pos 0 -ℤ cell n g k
-  pub zeros : (k : ℕ) → k < 256 → at t (256 + k) ≡ pos 0
-  pub entries : (k : ℕ) → k < e → at t (512 + k) ≡ cell n g k
-
-pub begun-none : (n : ℕ) (g : List ℤ) → Begun n g (replicate 768 (pos 0)) 0
-begun-none n g =
+pub tabulated-none : (n : ℕ) (g : List ℤ) → Tabulated n g (replicate 768 (pos 0)) 0
+tabulated-none n g =
     record {
       size = refl;
       negatives = λ k l. absurd (omega arith);
-      zeros = λ k l. getD-replicate 768 (256 + k) (pos 0) (pos 0) (omega arith);
+      zeros = λ k l. zero-at (256 + k) (omega arith);
       entries = λ k l. absurd (omega arith);
+      rest = λ k m l. (zero-at k (omega arith), zero-at (512 + k) (omega arith));
     }
+  where
+    zero-at : (k : ℕ) → k < 768 → at (replicate 768 (pos 0)) k ≡ pos 0
+    zero-at k l = getD-replicate 768 k (pos 0) (pos 0) l
 
 -- one cell more: v is the cell, x its negative
-pub begun-next : {n : ℕ} {g t : List ℤ} {e : ℕ} → e < 256 → Begun n g t e → (x v : ℤ) → x ≡ pos 0 -ℤ cell n g e → v ≡ cell n g e
-    → Begun n g (set (set t e x) (512 + e) v) (e + 1)
-begun-next {n} {g} {t} {e} l h x v ex ev =
+pub tabulated-next : {n : ℕ} {g t : List ℤ} {e : ℕ} → e < 256 → Tabulated n g t e → (x v : ℤ) → x ≡ pos 0 -ℤ cell n g e → v ≡ cell n g e
+    → Tabulated n g (set (set t e x) (512 + e) v) (e + 1)
+tabulated-next {n} {g} {t} {e} l h x v ex ev =
     record {
       size = length-set (set t e x) (512 + e) v ∙ length-set t e x ∙ h .size;
       negatives = λ k m. negative k m (le-or-lt e k);
       zeros = λ k m. other (256 + k) (λ q. omega arith) (λ q. omega arith) ∙ h .zeros k m;
       entries = λ k m. last k m (le-or-lt e k);
+      rest = λ k m q.
+          let r = h .rest k (omega arith) q in
+          (other k (λ a. omega arith) (λ a. omega arith) ∙ r .0, other (512 + k) (λ a. omega arith) (λ a. omega arith) ∙ r .1);
     }
   where
     other : (k : ℕ) → (k ≡ e → ⊥) → (k ≡ 512 + e → ⊥) → at (set (set t e x) (512 + e) v) k ≡ at t k
@@ -70,7 +70,36 @@ begun-next {n} {g} {t} {e} l h x v ex ev =
         rw same (getD-set-same (set t e x) (512 + e) v (pos 0) (omega (arith, length-set t e x, h .size)) ∙ ev)
     last k m (inr q) = other (512 + k) (λ a. omega arith) (λ a. omega arith) ∙ h .entries k q
 
--- cells are small, so that the machine has them and their negatives: `v` is what `cell` gave
+-- a column whose rows below n are placed is done: the cells of the others are 0
+pub column-done : {n : ℕ} {g t : List ℤ} {j : ℕ} → n ≤ 16 → j < n → Tabulated n g t (16 * j + n) → Tabulated n g t (16 * (j + 1))
+column-done {n} {g} {t} {j} order l h =
+    record {
+      size = h .size;
+      negatives = λ k m. negative k m (le-or-lt (16 * j + n) k);
+      zeros = h .zeros;
+      entries = λ k m. last k m (le-or-lt (16 * j + n) k);
+      rest = λ k m q. h .rest k (omega arith) q;
+    }
+  where
+    past : (k : ℕ) → k < 16 * (j + 1) → 16 * j + n ≤ k → cell n g k ≡ pos 0
+    past k m q = let a : n ≤ k % 16 = omega arith in rw (le-ltb (k % 16) n a) refl
+
+    negative : (k : ℕ) → k < 16 * (j + 1) → (16 * j + n ≤ k) ⊎ (k < 16 * j + n) → at t k ≡ pos 0 -ℤ cell n g k
+    negative k m (inl q) = h .rest k q (omega arith) .0 ∙ rw (past k m q) refl
+    negative k m (inr q) = h .negatives k q
+
+    last : (k : ℕ) → k < 16 * (j + 1) → (16 * j + n ≤ k) ⊎ (k < 16 * j + n) → at t (512 + k) ≡ cell n g k
+    last k m (inl q) = h .rest k q (omega arith) .1 ∙ rw (past k m q) refl
+    last k m (inr q) = h .entries k q
+
+-- the cell of row i in column j
+cell-is : (n : ℕ) (g : List ℤ) (i j : ℕ) → i < n → n ≤ 16 → cell n g (16 * j + i) ≡ entry g i j
+cell-is n g i j l m =
+    let a : (16 * j + i) % 16 ≡ i = omega arith in
+    let b : (16 * j + i) / 16 ≡ j = omega arith in
+    rw (a, b, lt-ltb i n l) refl
+
+-- cells are small, so that the machine has them and their negatives
 module _ (n : ℕ) (g : List ℤ) (order : n ≤ 16) (small : MayTabulate n g) where
   by-row : (e : ℕ) → e < 16 * n → (n ≤ e % 16) ⊎ (e % 16 < n) → natAbs (cell n g e) ≤ 2 ^ 40
   by-row e l (inl m) = rw (le-ltb (e % 16) n m) (omega arith)
@@ -79,21 +108,21 @@ module _ (n : ℕ) (g : List ℤ) (order : n ≤ 16) (small : MayTabulate n g) w
   cell-small : (e : ℕ) → e < 16 * n → natAbs (cell n g e) ≤ 2 ^ 40
   cell-small e l = by-row e l (le-or-lt n (e % 16))
 
-  module _ (e : ℕ) (l : e < 16 * n) (v : ℤ) (ev : v ≡ cell n g e) where
-    abbrev the-cell : Machine v
-    the-cell = known v (cell n g e) (2 ^ 40) ev (cell-small e l)
+  module _ (i j : ℕ) (l : i < n) (m : j < n) where
+    abbrev the-entry : Machine (entry g i j)
+    the-entry = bounded (entry g i j) (2 ^ 40) (small i j l m)
 
-    pub negative-fits : SFits w64 (pos 0 -ℤ toZ w64 (ofZ w64 v))
-    negative-fits = let a = the-cell in machine-fits (search machs depth 9) tt
+    pub negative-fits : SFits w64 (pos 0 -ℤ toZ w64 (ofZ w64 (entry g i j)))
+    negative-fits = let a = the-entry in machine-fits (search machs depth 9) tt
 
-    pub negative-is : toZ w64 (ofZ w64 (pos 0 -ℤ toZ w64 (ofZ w64 v))) ≡ pos 0 -ℤ cell n g e
-    negative-is = let a = the-cell in machine-eq (search machs depth 9) tt refl
+    pub negative-is : toZ w64 (ofZ w64 (pos 0 -ℤ toZ w64 (ofZ w64 (entry g i j)))) ≡ pos 0 -ℤ cell n g (16 * j + i)
+    negative-is = let a = the-entry in machine-eq (search machs depth 9) tt (rw (cell-is n g i j l order) refl)
 
-    pub cell-kept : toZ w64 (ofZ w64 v) ≡ cell n g e
-    cell-kept = let a = the-cell in machine-eq (search machs depth 9) tt refl
+    pub entry-kept : toZ w64 (ofZ w64 (entry g i j)) ≡ cell n g (16 * j + i)
+    entry-kept = let a = the-entry in machine-eq (search machs depth 9) tt (sym (cell-is n g i j l order))
 
 -- all cells
-module _ {n : ℕ} {g t : List ℤ} (order : n ≤ 16) (small : MayTabulate n g) (h : Begun n g t (16 * n)) where
+module _ {n : ℕ} {g t : List ℤ} (order : n ≤ 16) (small : MayTabulate n g) (h : Tabulated n g t (16 * n)) where
   block : (c e : ℕ) → c < 3 → e < 16 * n → at t (256 * c + e) ≡ (pos c -ℤ pos 1) *ℤ at t (512 + e)
   block zero e l m =
       let first : 256 * 0 + e ≡ e = omega arith in
@@ -110,17 +139,11 @@ module _ {n : ℕ} {g t : List ℤ} (order : n ≤ 16) (small : MayTabulate n g)
       once x = solve (x ∷ []) (search polys depth 9) (search polys depth 9) tt
   block (suc (suc (suc c))) e l m = absurd (omega arith)
 
-  cell-is : (i j : ℕ) → i < n → cell n g (16 * j + i) ≡ entry g i j
-  cell-is i j l =
-      let a : (16 * j + i) % 16 ≡ i = omega arith in
-      let b : (16 * j + i) / 16 ≡ j = omega arith in
-      rw (a, b, lt-ltb i n l) refl
-
   pub products-filled : Products n g t
   products-filled =
       record {
         table = record { blocks = block; small = λ e l. rw (h .entries e l) (cell-small n g order small e l) };
-        entries = λ i j l m. h .entries (16 * j + i) (omega arith) ∙ cell-is i j l;
+        entries = λ i j l m. h .entries (16 * j + i) (omega arith) ∙ cell-is n g i j l order;
       }
 
 -- ---- summing its columns

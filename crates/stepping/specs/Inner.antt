@@ -70,6 +70,14 @@ product-count = 3 * 256
 abbrev pub cell : ℕ → List ℤ → ℕ → ℤ
 cell n g e = cond (ltb (e % 16) n) (entry g (e % 16) (e / 16)) (pos 0)
 
+-- the cells below e stand in the first block, as negatives, and in the last, and all else has zeros
+pub record Tabulated (n : ℕ) (g t : List ℤ) (e : ℕ) : Type 0 where
+  pub size : length t ≡ product-count
+  pub negatives : (k : ℕ) → k < e → at t k ≡ pos 0 -ℤ cell n g k
+  pub zeros : (k : ℕ) → k < 256 → at t (256 + k) ≡ pos 0
+  pub entries : (k : ℕ) → k < e → at t (512 + k) ≡ cell n g k
+  pub rest : (k : ℕ) → e ≤ k → k < 256 → (at t k ≡ pos 0) × (at t (512 + k) ≡ pos 0)
+
 -- row i as the table's last block has it
 abbrev pub table-row : List ℤ → ℕ → ℕ → ℤ
 table-row t i j = at t (512 + (16 * j + i))

@@ -1,12 +1,12 @@
 // The rows' sums with the digits of the step before, in one of two ways: row by row over the columns in
 // which a row has entries, or, in radix 2, column by column from a table of products.
 ghost use mathlib.Core.Path.{_≡_};
-ghost use Prim.Native.Nat.{_+_, _*_, _/_, _<_, _≤_};
+ghost use Prim.Native.Nat.{_+_, _*_, _<_, _≤_};
 ghost use lib.IntN.{pos, natAbs, _+ℤ_};
 ghost use Rattle.integers.specs.Sum.{dot};
 ghost use Rattle.integers.specs.Flat.{at, entry};
 ghost use Rattle.stepping.specs.Steps.{filled};
-ghost use Rattle.stepping.specs.Inner.{row-dot, MaySum, MaySumRows, Span, Start, Starts, End, Ends, cell, Table, Products, Signs, TableSums, MayTabulate, MayAdd, added};
+ghost use Rattle.stepping.specs.Inner.{row-dot, MaySum, MaySumRows, Span, Start, Starts, End, Ends, Tabulated, Table, Products, Signs, TableSums, MayTabulate, MayAdd, added};
 use job::ROWS;
 use system::ENTRIES;
 
@@ -113,15 +113,18 @@ pub fn row_sums<'a>(
     }
 }
 
-// The entry of row e % 16 in column e / 16, 0 past row n.
-fn cell(g: &[i64; ENTRIES], n: usize, e: usize) -> i64
-    requires { ⌜ e < 256 ⌝ }
-    ensures { λ v. ⌜ v ≡ cell n (now (g .entry)) e ⌝ }
+// Column j of the table, in the rows below n: the entries' negatives in the first block, and the entries in
+// the last. The other rows keep their zeros.
+fn place_column(g: &[i64; ENTRIES], n: usize, j: usize, t: &mut [i64; PRODUCTS])
+    requires { ⌜ (n ≤ 16) × (j < n) × MayTabulate n (now g) × Tabulated n (now g) (now t) (16 * j) ⌝ }
+    ensures { λ _. ⌜ Tabulated n (now (g .entry)) (now (t .exit)) (16 * (j + 1)) ⌝ }
 {
-    if e % 16 < n {
-        g[16 * (e % 16) + e / 16]
-    } else {
-        0
+    let mut i: usize = 0;
+    while i < n {
+        let v = g[16 * i + j];
+        t[16 * j + i] = 0 - v;
+        t[512 + (16 * j + i)] = v;
+        i += 1;
     }
 }
 
@@ -132,12 +135,10 @@ pub fn products(g: &[i64; ENTRIES], n: usize) -> [i64; PRODUCTS]
     ensures { λ t. ⌜ Products n (now (g .entry)) t ⌝ }
 {
     let mut t = [0i64; PRODUCTS];
-    let mut e: usize = 0;
-    while e < 16 * n {
-        let v = cell(g, n, e);
-        t[e] = 0 - v;
-        t[512 + e] = v;
-        e += 1;
+    let mut j: usize = 0;
+    while j < n {
+        place_column(g, n, j, &mut t);
+        j += 1;
     }
     t
 }
