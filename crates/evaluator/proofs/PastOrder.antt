@@ -12,7 +12,7 @@ use lib.IntN.{ℤ, pos, _-ℤ_, _*ℤ_}
 use lib.ListN.{length, drop, getD-replicate}
 use Rattle.integers.specs.Flat.{at, entry, flat-vector}
 use Rattle.integers.proofs.Flat.{getD-list-from}
-use Rattle.integers.proofs.Stores.{length-stores, stores-other}
+use Rattle.integers.proofs.Stores.{length-stores, stores-ext, stores-other}
 use Rattle.integers.proofs.Maximum.{le-or-lt}
 use Rattle.integers.proofs.Product.{dot-ext}
 use Rattle.job.specs.Header.{radix}
@@ -24,7 +24,7 @@ use Rattle.system.specs.System.{matrix-of, right-side-of}
 use Rattle.job.specs.declared.Header.{Header}
 use Rattle.stepping.specs.Steps.{finer, stepped-digits, stepped-residuals, last-digits, chosen-digits, residuals-left, one-step, steps}
 use Rattle.recurrence.specs.Recurrence.{shifted, next-digit, next-residual, reading, select}
-use Rattle.stepping.proofs.Stepped.{filled-ext, length-stepped-residuals, stepped-residual-past}
+use Rattle.stepping.proofs.Stepped.{length-stepped-residuals, stepped-residual-past}
 use Rattle.header.specs.Header.{header-of}
 use Rattle.frame.specs.Frame.{frame-numbers}
 use Rattle.state.specs.State.{all-steps, digits-of, state-last, idle-state, fresh, state-checks, PassesLimits, SameBelow}
@@ -82,7 +82,7 @@ module _ (n r c p u : ℕ) (g g′ z z′ : List ℤ) {d d′ : List ℤ} (eg : 
 
   digits-alike : stepped-digits n r c p u g z d ≡ stepped-digits n r c p u g′ z′ d′
   unfolding stepped-digits next-digit
-  digits-alike = filled-ext _ _ _ n (λ i l. ap (λ (w : ℤ). select p u w) (shifted-alike i l))
+  digits-alike = stores-ext _ _ _ _ n (λ i l. ap (λ (w : ℤ). select p u w) (shifted-alike i l))
 
   residuals-alike : length z ≡ length z′ → (i : ℕ) → i < n → at (stepped-residuals n r c p u g z d) i ≡ at (stepped-residuals n r c p u g′ z′ d′) i
   unfolding stepped-residuals next-residual next-digit

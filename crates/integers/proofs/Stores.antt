@@ -23,6 +23,12 @@ unfolding stores
 length-stores g place value zero = refl
 length-stores g place value (suc k) = length-set (stores g place value k) (place k) (value k) ∙ length-stores g place value k
 
+-- only the values that are stored count
+pub stores-ext : (g : List ℤ) (place : ℕ → ℕ) (value other : ℕ → ℤ) (k : ℕ) → ((t : ℕ) → t < k → value t ≡ other t) → stores g place value k ≡ stores g place other k
+unfolding stores
+stores-ext g place value other zero e = refl
+stores-ext g place value other (suc k) e = rw (stores-ext g place value other k (λ t l. e t (omega arith)), e k (omega arith)) refl
+
 -- a place that none of them stores to
 pub stores-other : (g : List ℤ) (place : ℕ → ℕ) (value : ℕ → ℤ) (k m : ℕ) → ((t : ℕ) → t < k → m ≡ place t → ⊥) → at (stores g place value k) m ≡ at g m
 unfolding stores

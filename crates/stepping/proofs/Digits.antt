@@ -1,5 +1,5 @@
--- The digits of a step, copied out of the array of all steps. Cited by the proofs of `last_digits` and
--- `store_digits`.
+-- The digits of a step, copied out of the array of all steps. Cited by the proofs of `last_digits` and of the
+-- runs of steps.
 use mathlib.Core.Path.{_≡_, refl}
 use mathlib.Core.Bool.{Bool, true, false, cond}
 use mathlib.Core.List.{List}

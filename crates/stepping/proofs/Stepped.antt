@@ -10,12 +10,13 @@ use lib.IntN.{ℤ, pos, natAbs}
 use lib.ListN.{length, set, replicate, getD-replicate, List·getD-eq-default}
 use lib.Seq.{ext-getD}
 use Rattle.integers.proofs.Maximum.{le-or-lt}
-use Rattle.integers.proofs.Product.{dot-scale}
+use Rattle.integers.proofs.Product.{dot-none, dot-scale}
 use Rattle.recurrence.specs.Recurrence.{select, shifted, next-digit, next-residual}
 use Rattle.recurrence.proofs.Selection.{select-selects}
 use Rattle.recurrence.proofs.Theorems.{bounds-kept-next}
-use Rattle.integers.specs.Flat.{at, entry, stores}
-use Rattle.integers.proofs.Stores.{stores-zero, stores-suc, length-stores, stores-other, stores-at}
+use Rattle.integers.specs.Flat.{at, entry}
+use Rattle.integers.specs.Sum.{dot}
+use Rattle.integers.proofs.Stores.{stores-zero, stores-suc, stores-ext, length-stores, stores-other, stores-at}
 use Rattle.job.specs.Rules.{bound-over, bound-under}
 use Rattle.stepping.specs.Steps.{filled, finer, stepped-digits, stepped-residuals}
 use Rattle.stepping.specs.Inner.{digit-from, residual-from, Vector, row-dot, Summed}
@@ -42,12 +43,6 @@ module _ (f : ℕ → ℤ) (v : List ℤ) where
   -- the rows below n hold f's values
   pub filled-row : (n i : ℕ) → i < n → i < length v → at (filled f v n) i ≡ f i
   filled-row n i h l = stores-at v (λ i. i) f n i h l (λ t a b e. omega arith)
-
-  -- only f's values in the rows below n count
-  pub filled-ext : (h : ℕ → ℤ) (n : ℕ) → ((i : ℕ) → i < n → f i ≡ h i) → filled f v n ≡ filled h v n
-  unfolding stores
-  filled-ext h zero e = refl
-  filled-ext h (suc n) e = rw (filled-ext h n (λ i l. e i (omega arith)), e n (omega arith)) refl
 
   -- what holds of f's values and of 0 holds of every row below n, whatever the length
   pub filled-each : (Q : ℤ → Type 0) (n : ℕ) → Q (pos 0) → ((i : ℕ) → i < n → Q (f i)) → (i : ℕ) → i < n → Q (at (filled f v n) i)
@@ -116,15 +111,23 @@ pub filled-summed : {n : ℕ} {g d s : List ℤ} (v : List ℤ) → length v ≡
 filled-summed {n} {g} {d} {s} v size order e =
     record { rows = λ i l. rw e (filled-row (row-dot n g d) v n i l (omega (arith, size))) }
 
+-- before the first step: with digits that are 0 every sum is 0, with any row,
+pub zeros-dot : (n : ℕ) (row : ℕ → ℤ) {d : List ℤ} (i : ℕ) → d ≡ replicate 16 (pos 0) → at (replicate 16 (pos 0)) i ≡ dot n row (at d)
+zeros-dot n row {d} i e = at-zeros i ∙ sym (dot-none n row (at d) (λ j l. rw e (at-zeros j)))
+
+-- and so with those of a matrix
+pub zeros-summed : {n : ℕ} (g : List ℤ) {d : List ℤ} → d ≡ replicate 16 (pos 0) → Summed n g d (replicate 16 (pos 0))
+zeros-summed {n} g e = record { rows = λ i l. zeros-dot n (entry g i) i e }
+
 -- chosen from the rows' sums, digits and residuals are those of the step
 module _ {n : ℕ} {g d s : List ℤ} (sums : Summed n g d s) (r c p u : ℕ) (z : List ℤ) {q : ℕ} (e : q ≡ r * c) where
   pub filled-stepped : {v : List ℤ} → Vector n v → filled (digit-from r q p u z s) v n ≡ stepped-digits n r c p u g z d
   unfolding stepped-digits next-digit shifted
-  filled-stepped h = filled-vector (digit-from r q p u z s) h ∙ filled-ext _ _ _ n (λ i l. rw (e, sums .rows i l, shifted-together (at z i) (row-dot n g d i) r c, dot-scale n (pos c) (entry g i) (at d)) refl)
+  filled-stepped h = filled-vector (digit-from r q p u z s) h ∙ stores-ext _ _ _ _ n (λ i l. rw (e, sums .rows i l, shifted-together (at z i) (row-dot n g d i) r c, dot-scale n (pos c) (entry g i) (at d)) refl)
 
   pub filled-left : filled (residual-from r q p u z s) z n ≡ stepped-residuals n r c p u g z d
   unfolding stepped-residuals next-residual next-digit shifted
-  filled-left = filled-ext _ _ _ n (λ i l. rw (e, sums .rows i l, shifted-together (at z i) (row-dot n g d i) r c, dot-scale n (pos c) (entry g i) (at d)) refl)
+  filled-left = stores-ext _ _ _ _ n (λ i l. rw (e, sums .rows i l, shifted-together (at z i) (row-dot n g d i) r c, dot-scale n (pos c) (entry g i) (at d)) refl)
 
 -- a step leaves what can make the next one; z′ and d′ are what it gave
 pub keeps-limits-next : {n r c p u : ℕ} {g z d z′ d′ : List ℤ} → 0 < u → KeepsLimits n r c p u g z d →

@@ -14,9 +14,9 @@ use lib.IntN.{ℤ, pos}
 use lib.ListN.{length, replicate, List·getD-eq-default}
 use lib.Pow.{pow-pos}
 use lib.Seq.{ext-getD}
-use Rattle.integers.specs.Flat.{at, flat-vector}
+use Rattle.integers.specs.Flat.{at, stores, flat-vector}
 use Rattle.integers.proofs.Flat.{at-flat-vector, length-list-from, getD-list-from}
-use Rattle.integers.proofs.Stores.{length-stores}
+use Rattle.integers.proofs.Stores.{length-stores, stores-ext}
 use Rattle.integers.proofs.Maximum.{le-or-lt}
 use Rattle.job.specs.Header.{radix}
 use Rattle.job.proofs.Limits as limits
@@ -24,7 +24,7 @@ use Rattle.job.specs.declared.Header.{Header}
 use Rattle.stepping.specs.Steps.{filled, last-digits, state-factor, chosen-digits, residuals-left, digits-stored, one-step, steps}
 use Rattle.stepping.specs.Inner.{digit-from, residual-from, Vector, MayChoose, row-dot, Summed, MaySumRows, Signs, Between, MayStepOnce, Stepped, MayStep}
 use Rattle.stepping.proofs.Limits.{KeepsLimits, may-sum-rows, digits-signs, may-choose-from}
-use Rattle.stepping.proofs.Stepped.{vector-zeros, length-stepped-digits, stepped-digit-past, filled-summed, length-filled, filled-stepped, filled-left, keeps-limits-next}
+use Rattle.stepping.proofs.Stepped.{vector-zeros, length-stepped-digits, stepped-digit-past, filled-summed, length-filled, filled-row, filled-stepped, filled-left, keeps-limits-next}
 use Rattle.state.specs.State.{state-unit, digits-of, PassesLimits}
 use Rattle.state.specs.Inner.{state-of}
 use Rattle.state.specs.declared.State.{State}
@@ -113,8 +113,8 @@ module _ {s : State} {r q bits : ℕ} {before chosen sums : List ℤ} (a : MaySt
   step-limits : KeepsLimits n r (state-factor s) p u (s .g) (s .z) before
   step-limits = rw (a .radix-is, a .bits-are .0) (first-limits (a .may .passes) (a .between .last))
 
-  pub may-choose : (4 ≤ bits) × (bits ≤ 44) × MayChoose n r q p u (s .z) sums
-  may-choose = (a .bits-are .1, a .bits-are .2, rw (a .units-are) (may-choose-from step-limits (a .between .summed)))
+  pub may-choose : (s .k < 60) × (4 ≤ bits) × (bits ≤ 44) × MayChoose n r q p u (s .z) sums
+  may-choose = (omega (arith, steps-have-room (a .may)), a .bits-are .1, a .bits-are .2, rw (a .units-are) (may-choose-from step-limits (a .between .summed)))
 
   -- `new` has what `choose` left in the vector being chosen
   module _ {new : List ℤ} (ec : new ≡ filled (digit-from r q p u (s .z) sums) chosen n) where
@@ -134,15 +134,20 @@ module _ {s : State} {r q bits : ℕ} {before chosen sums : List ℤ} (a : MaySt
     pub new-signs : p ≡ 1 → Signs n new
     new-signs e = digits-signs next-limits e
 
-    -- and the step is made: `z` and `ds` have what `choose` and `store_digits` left, and `sums′` the rows'
-    -- sums
-    pub stepped : {z ds sums′ : List ℤ} → z ≡ filled (residual-from r q p u (s .z) sums) (s .z) n → ds ≡ digits-stored n (s .k) (s .digits) new
+    -- only the rows below n are stored, and there it has what was chosen
+    stored-same-as : stores (s .digits) (λ i. 16 * s .k + i) (digit-from r q p u (s .z) sums) n ≡ digits-stored n (s .k) (s .digits) new
+    stored-same-as =
+        stores-ext _ _ _ _ n
+        (λ i l. sym (rw ec (filled-row (digit-from r q p u (s .z) sums) chosen n i l (omega (arith, a .between .free .size, a .may .passes .limits .order-most)))))
+
+    -- and the step is made: `z` and `ds` have what `choose` left, and `sums′` the rows' sums
+    pub stepped : {z ds sums′ : List ℤ} → z ≡ filled (residual-from r q p u (s .z) sums) (s .z) n → ds ≡ stores (s .digits) (λ i. 16 * s .k + i) (digit-from r q p u (s .z) sums) n
         → Summed n (s .g) new sums′ → Stepped s z ds new sums′
     unfolding one-step
     stepped ez ed es =
         record {
           residuals = ez ∙ filled-left (a .between .summed) r (state-factor s) p u (s .z) (a .units-are) ∙ rw (a .radix-is, a .bits-are .0, a .between .last) refl;
-          digits = ed ∙ rw new-is refl;
+          digits = ed ∙ stored-same-as ∙ rw new-is refl;
           newest = new-is;
           summed = es;
         }

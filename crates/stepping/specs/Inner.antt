@@ -3,7 +3,7 @@
 -- is a row's weight; a row's sum is within 2^48. The unit of residuals is at most 2^44, and w within 2^49.
 use mathlib.Core.{Path._≡_, List.List, Bool.cond}
 use Prim.Native.Nat.{ℕ, _+_, _*_, _^_, _<_, _≤_, _/_, _%_}
-use lib.{IntN.ℤ, IntN.pos, IntN.natAbs, IntN._+ℤ_, IntN._-ℤ_, IntN._*ℤ_, ListN.length, ListN.getD, Dec.ltb, Signed.ltZ}
+use lib.{IntN.ℤ, IntN.pos, IntN.natAbs, IntN._+ℤ_, IntN._-ℤ_, IntN._*ℤ_, ListN.length, ListN.getD, ListN.replicate, Dec.ltb, Signed.ltZ}
 use Rattle.integers.specs.{Flat.at, Flat.entry, Sum.dot, Sum.weight}
 use Rattle.job.specs.{Rules.bound-over, Rules.bound-under, Header.radix}
 use Rattle.recurrence.specs.Recurrence.{select}
@@ -30,6 +30,10 @@ pub record MaySum (g : List ℤ) (i n : ℕ) (d : List ℤ) : Type 0 where
 -- every row may
 abbrev pub MaySumRows : (n : ℕ) (g d : List ℤ) → Type 0
 MaySumRows n g d = (i : ℕ) → i < n → MaySum g i n d
+
+-- before the first step, after 0 steps, every digit is 0
+abbrev pub FirstZero : (k : ℕ) (d : List ℤ) → Type 0
+FirstZero k d = k ≡ 0 → d ≡ replicate 16 (pos 0)
 
 -- ---- where a row has its entries
 

@@ -5,11 +5,13 @@ ghost use mathlib.Core.Path.{_≡_};
 ghost use Prim.Native.Nat.{_+_, _*_, _/_, _^_, _<_, _≤_};
 ghost use lib.IntN.{pos, natAbs, _+ℤ_, _-ℤ_, _*ℤ_};
 ghost use Rattle.integers.specs.Sum.{Within};
+ghost use Rattle.integers.specs.Flat.{stores};
 ghost use Rattle.job.specs.Rules.{bound-over, bound-under};
 ghost use Rattle.recurrence.specs.Recurrence.{estimate, rounded, select};
 ghost use Rattle.stepping.specs.Steps.{filled};
 ghost use Rattle.stepping.specs.Inner.{lesser, greater, digit-from, residual-from, MayChoose};
 use job::ROWS;
+use state::DIGITS;
 
 // 2^f, signed.
 fn unit(f: usize) -> i64
@@ -81,28 +83,35 @@ fn residual_after(w: i64, q: i64, f: usize) -> i64
     w - unit(f) * q
 }
 
-// The choice of one step: in `new` the digits chosen from the residuals z and the rows' sums s with the
-// digits of the step before, and in z the residuals that they leave. No row uses a digit that this step has
-// chosen. The words past row n stay.
+// The choice of the step after the k-th: in `new` the digits chosen from the residuals z and the rows' sums s
+// with the digits of the step before, and in z the residuals that they leave. No row uses a digit that this
+// step has chosen. Each digit is stored in the array of all steps too, where those of a step start 16 after
+// those of the step before. The words past row n stay.
 pub fn choose(
     s: &[i64; ROWS],
     z: &mut [i64; ROWS],
     new: &mut [i8; ROWS],
+    digits: &mut [i8; DIGITS],
     n: usize,
+    k: usize,
     r: usize,
     q: usize,
     f: usize,
     p: usize,
 )
-    requires { ⌜ (4 ≤ f) × (f ≤ 44) × MayChoose n r q p (2 ^ f) (now z) (now s) ⌝ }
+    requires { ⌜ (k < 60) × (4 ≤ f) × (f ≤ 44) × MayChoose n r q p (2 ^ f) (now z) (now s) ⌝ }
     ensures digits { λ _. ⌜ now (new .exit) ≡ filled (digit-from r q p (2 ^ f) (now (z .entry)) (now (s .entry))) (now (new .entry)) n ⌝ }
+    ensures stored { λ _. ⌜ now (digits .exit) ≡ stores (now (digits .entry)) (λ i. 16 * k + i) (digit-from r q p (2 ^ f) (now (z .entry)) (now (s .entry))) n ⌝ }
     ensures residuals { λ _. ⌜ now (z .exit) ≡ filled (residual-from r q p (2 ^ f) (now (z .entry)) (now (s .entry))) (now (z .entry)) n ⌝ }
 {
+    let start = 16 * k;
     let mut i: usize = 0;
     while i < n {
         let w = shifted(z[i], s[i], r, q);
         let d = select(w, f, p);
-        new[i] = integers::narrow(d);
+        let digit = integers::narrow(d);
+        new[i] = digit;
+        digits[start + i] = digit;
         z[i] = residual_after(w, d, f);
         i += 1;
     }

@@ -4,13 +4,13 @@
 // the recurrence.
 ghost use mathlib.Core.Path.{_≡_};
 ghost use mathlib.Core.Bool.{true};
-ghost use Prim.Native.Nat.{_<_, _≤_};
+ghost use Prim.Native.Nat.{_≤_};
 ghost use lib.ListN.{length};
 ghost use Rattle.integers.specs.Flat.{flat-vector};
 ghost use Rattle.stepping.specs.Inner.{Starts, Ends, Products, MayStepOnce, Stepped, MayStep};
 ghost use Rattle.state.specs.State.{digits-of};
 ghost use Rattle.state.specs.Inner.{state-of};
-ghost use Rattle.stepping.specs.Steps.{digits-stored, steps};
+ghost use Rattle.stepping.specs.Steps.{steps};
 use job::Header;
 use job::ROWS;
 use state::DIGITS;
@@ -39,19 +39,6 @@ fn last_digits(digits: &[i8; DIGITS], k: usize, n: usize) -> [i8; ROWS]
     d
 }
 
-// Stores the digits chosen in the step after the k-th, in the rows below n.
-fn store_digits(digits: &mut [i8; DIGITS], k: usize, n: usize, chosen: &[i8; ROWS])
-    requires { ⌜ (k < 60) × (n ≤ 16) ⌝ }
-    ensures { λ _. ⌜ now (digits .exit) ≡ digits-stored n k (now (digits .entry)) (now (chosen .entry)) ⌝ }
-{
-    let start = 16 * k;
-    let mut i: usize = 0;
-    while i < n {
-        digits[start + i] = chosen[i];
-        i += 1;
-    }
-}
-
 // The step after the k-th, with each row summed over the columns in which it has entries. The vector of the
 // step before and the vector being chosen go in by value, and the one chosen comes back; the caller swaps
 // the two. `sums` comes in with the rows' sums with the step before, whose digits the code need not
@@ -78,9 +65,8 @@ fn step_by_rows<'a>(
     ensures size { λ _. ⌜ length (now (sums .exit)) ≡ 16 ⌝ }
 {
     let n = h.n;
-    choice::choose(sums, z, &mut chosen, n, r, q, bits, h.p);
+    choice::choose(sums, z, &mut chosen, digits, n, k, r, q, bits, h.p);
     sums::row_sums(g, starts, ends, &chosen, n, sums);
-    store_digits(digits, k, n, &chosen);
     chosen
 }
 
@@ -107,8 +93,7 @@ fn run_by_rows(
     let ends = sums::row_ends(g, n);
     let mut before = last_digits(digits, k, n);
     let mut chosen = [0i8; ROWS];
-    let mut sums = [0i64; ROWS];
-    sums::row_sums(g, &starts, &ends, &before, n, &mut sums);
+    let mut sums = sums::first_row_sums(g, &starts, &ends, &before, n, k);
     let mut j: usize = 0;
     while j < made {
         let newest = step_by_rows(
@@ -154,9 +139,8 @@ fn step_by_columns<'a>(
     ensures { λ v. ⌜ Stepped (state-of true h scale k (now (g .entry)) (now (z .entry)) (now (digits .entry))) (now (z .exit)) (now (digits .exit)) v (now (sums .exit)) ⌝ }
 {
     let n = h.n;
-    choice::choose(sums, z, &mut chosen, n, r, q, bits, h.p);
+    choice::choose(sums, z, &mut chosen, digits, n, k, r, q, bits, h.p);
     *sums = sums::column_sums(table, &chosen, n);
-    store_digits(digits, k, n, &chosen);
     chosen
 }
 
@@ -181,7 +165,7 @@ fn run_by_columns(
     let table = sums::products(g, n);
     let mut before = last_digits(digits, k, n);
     let mut chosen = [0i8; ROWS];
-    let mut sums = sums::column_sums(&table, &before, n);
+    let mut sums = sums::first_column_sums(&table, &before, n, k);
     let mut j: usize = 0;
     while j < made {
         let newest = step_by_columns(

@@ -3,10 +3,11 @@
 ghost use mathlib.Core.Path.{_≡_};
 ghost use Prim.Native.Nat.{_+_, _*_, _<_, _≤_};
 ghost use lib.IntN.{pos, natAbs, _+ℤ_};
+ghost use lib.ListN.{length};
 ghost use Rattle.integers.specs.Sum.{dot};
 ghost use Rattle.integers.specs.Flat.{at, entry};
 ghost use Rattle.stepping.specs.Steps.{filled};
-ghost use Rattle.stepping.specs.Inner.{row-dot, MaySum, MaySumRows, Span, Start, Starts, End, Ends, Tabulated, Table, Products, Signs, TableSums, MayTabulate, MayAdd, added};
+ghost use Rattle.stepping.specs.Inner.{row-dot, Summed, MaySum, MaySumRows, FirstZero, Span, Start, Starts, End, Ends, Tabulated, Table, Products, Signs, TableSums, MayTabulate, MayAdd, added};
 use job::ROWS;
 use system::ENTRIES;
 
@@ -113,6 +114,27 @@ pub fn row_sums<'a>(
     }
 }
 
+// The sum of each row below n with the digits d of step k, in an array of their own, with which steps begin.
+// Before the first step every digit is 0, and so is every sum.
+pub fn first_row_sums<'a>(
+    g: &'a [i64; ENTRIES],
+    starts: &'a [usize; ROWS],
+    ends: &'a [usize; ROWS],
+    d: &'a [i8; ROWS],
+    n: usize,
+    k: usize,
+) -> [i64; ROWS]
+    requires { ⌜ (n ≤ 16) × MaySumRows n (now g) (now d) × Starts n (now g) (now starts) × Ends n (now g) (now ends) × FirstZero k (now d) ⌝ }
+    ensures { λ s. ⌜ (length s ≡ 16) × Summed n (now (g .entry)) (now (d .entry)) s ⌝ }
+{
+    let mut s = [0i64; ROWS];
+    if k == 0 {
+        return s;
+    }
+    row_sums(g, starts, ends, d, n, &mut s);
+    s
+}
+
 // Column j of the table, in the rows below n: the entries' negatives in the first block, and the entries in
 // the last. The other rows keep their zeros.
 fn place_column(g: &[i64; ENTRIES], n: usize, j: usize, t: &mut [i64; PRODUCTS])
@@ -176,4 +198,15 @@ pub fn column_sums(t: &[i64; PRODUCTS], d: &[i8; ROWS], n: usize) -> [i64; ROWS]
         j += 1;
     }
     s
+}
+
+// The same with the digits d of step k, with which steps begin. Before the first step every sum is 0.
+pub fn first_column_sums(t: &[i64; PRODUCTS], d: &[i8; ROWS], n: usize, k: usize) -> [i64; ROWS]
+    requires { ⌜ (n ≤ 16) × Table n (now t) × Signs n (now d) × FirstZero k (now d) ⌝ }
+    ensures { λ s. ⌜ TableSums n (now (t .entry)) (now (d .entry)) s ⌝ }
+{
+    if k == 0 {
+        return [0i64; ROWS];
+    }
+    column_sums(t, d, n)
 }

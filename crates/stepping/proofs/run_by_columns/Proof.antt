@@ -1,9 +1,10 @@
 -- The invariant: the arrays are the state's after j steps. The measure is what is left of the steps to be
 -- made.
-use mathlib.Core.Path.{_≡_}
+use mathlib.Core.Path.{_≡_, sym, _∙_}
 use mathlib.Core.Bool.{true}
 use Prim.Native.Nat.{_-_, _≤_}
 use native.Mathlib.Omega.{arith}
+use Rattle.stepping.proofs.Digits.{first-digits}
 use Rattle.stepping.proofs.Limits.{radix-two, may-tabulate, digits-signs}
 use Rattle.stepping.proofs.Table.{table-summed}
 use Rattle.state.specs.Inner.{state-of}
@@ -36,17 +37,17 @@ last-digits-requires c κs = let b = c .before .before .before .before .pre .0 i
 abbrev start : tie.After-last-digits Inv-loop μ-loop → tie.Start Inv-loop μ-loop
 start d = d .before .before .before .before .before
 
-column-sums-requires : tie.Need-column-sums-requires Inv-loop μ-loop
-column-sums-requires c κs =
+first-column-sums-requires : tie.Need-first-column-sums-requires Inv-loop μ-loop
+first-column-sums-requires c κs =
     let d = c .before .before in
     let p = start d .pre in
     let b = p .0 .passes in
-    (b .limits .order-most, d .before .before .products .ensures .table, digits-signs (first-limits b (d .last-digits .ensures)) (p .1))
+    (b .limits .order-most, d .before .before .products .ensures .table, digits-signs (first-limits b (d .last-digits .ensures)) (p .1), λ e. d .last-digits .ensures ∙ sym (first-digits _ _ _ e))
 
 loop-holds : tie.Need-loop-holds Inv-loop μ-loop
 loop-holds c =
     let d = c .before .before .before in
-    (omega arith, reached-start (d .last-digits .ensures) (table-summed _ _ (start d .pre .0 .passes .limits .order-most) (d .before .before .products .ensures) (c .column-sums .ensures)))
+    (omega arith, reached-start (d .last-digits .ensures) (table-summed _ _ (start d .pre .0 .passes .limits .order-most) (d .before .before .products .ensures) (c .first-column-sums .ensures)))
 
 -- ---- a turn
 
@@ -97,7 +98,7 @@ run-by-columns-spec =
     inner-bits-requires
     products-requires
     last-digits-requires
-    column-sums-requires
+    first-column-sums-requires
     loop-holds
     add-step-by-columns
     step-by-columns-requires

@@ -1,14 +1,14 @@
 -- The invariant: the arrays are the state's after j steps. The measure is what is left of the steps to be
 -- made.
-use mathlib.Core.Path.{_≡_, refl}
+use mathlib.Core.Path.{_≡_, sym, _∙_}
 use mathlib.Core.Bool.{true}
 use Prim.Native.Nat.{_-_, _≤_}
 use native.Mathlib.Omega.{arith}
-use lib.IntN.{pos}
-use lib.ListN.{length, replicate}
+use lib.ListN.{length}
+use Rattle.stepping.proofs.Digits.{first-digits}
 use Rattle.stepping.proofs.Limits.{may-sum-rows}
 use Rattle.state.specs.Inner.{state-of}
-use Rattle.stepping.proofs.Stepping.{Reached, rows-summed, first-limits, reached-start, reached-may, reached-next, steps-have-room}
+use Rattle.stepping.proofs.Stepping.{Reached, first-limits, reached-start, reached-may, reached-next, steps-have-room}
 use Rattle.stepping.proofs.run_by_rows.Statement.{statement}
 use Rattle.stepping.proofs.run_by_rows.Tie as tie
 
@@ -42,23 +42,22 @@ last-digits-requires c κs = let b = c .before .before .before .before .before .
 abbrev start : tie.After-last-digits Inv-loop μ-loop → tie.Start Inv-loop μ-loop
 start d = d .before .before .before .before .before .before .before
 
-row-sums-requires : tie.Need-row-sums-requires Inv-loop μ-loop
-row-sums-requires c κs =
-    let d = c .before .before .before .before in
+first-row-sums-requires : tie.Need-first-row-sums-requires Inv-loop μ-loop
+first-row-sums-requires c κs =
+    let d = c .before .before .before in
     let b = start d .pre .passes in
-    (b .limits .order-most, may-sum-rows (first-limits b (d .last-digits .ensures)), d .before .before .before .row-starts .ensures, d .before .before .row-ends .ensures)
+    (b .limits .order-most, may-sum-rows (first-limits b (d .last-digits .ensures)), d .before .before .before .row-starts .ensures, d .before .before .row-ends .ensures, λ e. d .last-digits .ensures ∙ sym (first-digits _ _ _ e))
 
 loop-holds : tie.Need-loop-holds Inv-loop μ-loop
 loop-holds c =
-    let d = c .before .before .before .before .before in
-    let j : 0 ≤ start d .args .made = omega arith in
-    let q = rows-summed (replicate 16 (pos 0)) refl (start d .pre .passes .limits .order-most) (c .row-sums .ensures) in
-    (j, q .0, reached-start (d .last-digits .ensures) (q .1))
+    let d = c .before .before .before .before in
+    let q = c .first-row-sums .ensures in
+    (omega arith, q .0, reached-start (d .last-digits .ensures) (q .1))
 
 -- ---- a turn
 
 abbrev begun : tie.In-loop Inv-loop μ-loop → tie.After-last-digits Inv-loop μ-loop
-begun i = i .before .before .before .before .before .before .before
+begun i = i .before .before .before .before .before .before
 
 add-step-by-rows : tie.Need-add-step-by-rows Inv-loop μ-loop
 add-step-by-rows c = omega (arith, steps-have-room (start (begun c) .pre), c .loop-test .taken)
@@ -93,7 +92,7 @@ loop-again c =
 returns : tie.Need-returns Inv-loop μ-loop
 returns c =
     let l = c .before .loop in
-    let e : l .j ≡ start (c .before .before .before .before .before .before .before) .args .made = omega arith in
+    let e : l .j ≡ start (c .before .before .before .before .before .before) .args .made = omega arith in
     (rw e at (l .inv .2 .residuals), rw e at (l .inv .2 .digits))
 
 pub run-by-rows-spec : {M : Type 1} → statement M
@@ -108,7 +107,7 @@ run-by-rows-spec =
     row-starts-requires
     row-ends-requires
     last-digits-requires
-    row-sums-requires
+    first-row-sums-requires
     loop-holds
     add-step-by-rows
     step-by-rows-requires

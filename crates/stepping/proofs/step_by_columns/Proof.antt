@@ -1,15 +1,14 @@
--- The digits are chosen, the rows are summed with them, and they are stored.
-use borrow.Author.Needs.{needs}
+-- The digits are chosen and stored, and the rows are summed with them.
 use Rattle.stepping.proofs.Table.{table-summed}
 use Rattle.stepping.proofs.Stepping.{may-choose, new-signs, stepped}
 use Rattle.stepping.proofs.step_by_columns.Statement.{statement}
 use Rattle.stepping.proofs.step_by_columns.Tie as tie
 
 choose-requires : tie.Need-choose-requires
-choose-requires c κs = may-choose (c .before .before .before .pre .0)
+choose-requires c κs = may-choose (c .before .before .before .before .pre .0)
 
 abbrev start : tie.After-choose → tie.Start
-start d = d .before .before .before .before
+start d = d .before .before .before .before .before
 
 column-sums-requires : tie.Need-column-sums-requires
 column-sums-requires c κs =
@@ -17,15 +16,11 @@ column-sums-requires c κs =
     let p = start d .pre in
     (p .0 .may .passes .limits .order-most, p .1 .table, new-signs (p .0) (d .choose .ensures .0) (p .2))
 
-store-digits-requires : tie.Need-store-digits-requires
-store-digits-requires c κs = search needs
-
 returns : tie.Need-returns
 returns c =
-    let w = c .before .before .before in
-    let d = w .before .before in
+    let d = c .before .before in
     let p = start d .pre in
-    stepped (p .0) (d .choose .ensures .0) (d .choose .ensures .1) (c .store-digits .ensures) (table-summed _ _ (p .0 .may .passes .limits .order-most) (p .1) (w .column-sums .ensures))
+    stepped (p .0) (d .choose .ensures .0) (d .choose .ensures .1 .1) (d .choose .ensures .1 .0) (table-summed _ _ (p .0 .may .passes .limits .order-most) (p .1) (c .column-sums .ensures))
 
 pub step-by-columns-spec : {M : Type 1} → statement M
-step-by-columns-spec = tie.close (tie.spec choose-requires column-sums-requires store-digits-requires returns)
+step-by-columns-spec = tie.close (tie.spec choose-requires column-sums-requires returns)

@@ -1,14 +1,13 @@
--- The digits are chosen, the rows are summed with them, and they are stored.
-use borrow.Author.Needs.{needs}
+-- The digits are chosen and stored, and the rows are summed with them.
 use Rattle.stepping.proofs.Stepping.{rows-summed, may-choose, may-sum, stepped}
 use Rattle.stepping.proofs.step_by_rows.Statement.{statement}
 use Rattle.stepping.proofs.step_by_rows.Tie as tie
 
 choose-requires : tie.Need-choose-requires
-choose-requires c κs = may-choose (c .before .before .before .pre .0)
+choose-requires c κs = may-choose (c .before .before .before .before .pre .0)
 
 abbrev start : tie.After-choose → tie.Start
-start d = d .before .before .before .before
+start d = d .before .before .before .before .before
 
 row-sums-requires : tie.Need-row-sums-requires
 row-sums-requires c κs =
@@ -16,16 +15,12 @@ row-sums-requires c κs =
     let p = start d .pre in
     (p .0 .may .passes .limits .order-most, may-sum (p .0) (d .choose .ensures .0), p .1, p .2)
 
-store-digits-requires : tie.Need-store-digits-requires
-store-digits-requires c κs = search needs
-
 returns : tie.Need-returns
 returns c =
-    let w = c .before .before .before in
-    let d = w .before .before .before in
+    let d = c .before .before .before in
     let p = start d .pre in
-    let q = rows-summed _ (p .3) (p .0 .may .passes .limits .order-most) (w .row-sums .ensures) in
-    (stepped (p .0) (d .choose .ensures .0) (d .choose .ensures .1) (c .store-digits .ensures) (q .1), q .0)
+    let q = rows-summed _ (p .3) (p .0 .may .passes .limits .order-most) (c .row-sums .ensures) in
+    (stepped (p .0) (d .choose .ensures .0) (d .choose .ensures .1 .1) (d .choose .ensures .1 .0) (q .1), q .0)
 
 pub step-by-rows-spec : {M : Type 1} → statement M
-step-by-rows-spec = tie.close (tie.spec choose-requires row-sums-requires store-digits-requires returns)
+step-by-rows-spec = tie.close (tie.spec choose-requires row-sums-requires returns)
