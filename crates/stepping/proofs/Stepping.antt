@@ -135,8 +135,8 @@ module _ {s : State} {r q bits : ℕ} {before chosen sums : List ℤ} (a : MaySt
     new-signs e = digits-signs next-limits e
 
     -- only the rows below n are stored, and there it has what was chosen
-    stored-same-as : stores (s .digits) (λ i. 16 * s .k + i) (digit-from r q p u (s .z) sums) n ≡ digits-stored n (s .k) (s .digits) new
-    stored-same-as =
+    new-stored : stores (s .digits) (λ i. 16 * s .k + i) (digit-from r q p u (s .z) sums) n ≡ digits-stored n (s .k) (s .digits) new
+    new-stored =
         stores-ext _ _ _ _ n
         (λ i l. sym (rw ec (filled-row (digit-from r q p u (s .z) sums) chosen n i l (omega (arith, a .between .free .size, a .may .passes .limits .order-most)))))
 
@@ -147,7 +147,7 @@ module _ {s : State} {r q bits : ℕ} {before chosen sums : List ℤ} (a : MaySt
     stepped ez ed es =
         record {
           residuals = ez ∙ filled-left (a .between .summed) r (state-factor s) p u (s .z) (a .units-are) ∙ rw (a .radix-is, a .bits-are .0, a .between .last) refl;
-          digits = ed ∙ stored-same-as ∙ rw new-is refl;
+          digits = ed ∙ new-stored ∙ rw new-is refl;
           newest = new-is;
           summed = es;
         }

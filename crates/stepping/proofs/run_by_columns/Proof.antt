@@ -1,10 +1,10 @@
 -- The invariant: the arrays are the state's after j steps. The measure is what is left of the steps to be
 -- made.
-use mathlib.Core.Path.{_≡_, sym, _∙_}
+use mathlib.Core.Path.{_≡_}
 use mathlib.Core.Bool.{true}
 use Prim.Native.Nat.{_-_, _≤_}
 use native.Mathlib.Omega.{arith}
-use Rattle.stepping.proofs.Digits.{first-digits}
+use Rattle.stepping.proofs.Digits.{first-zero}
 use Rattle.stepping.proofs.Limits.{radix-two, may-tabulate, digits-signs}
 use Rattle.stepping.proofs.Table.{table-summed}
 use Rattle.state.specs.Inner.{state-of}
@@ -42,7 +42,7 @@ first-column-sums-requires c κs =
     let d = c .before .before in
     let p = start d .pre in
     let b = p .0 .passes in
-    (b .limits .order-most, d .before .before .products .ensures .table, digits-signs (first-limits b (d .last-digits .ensures)) (p .1), λ e. d .last-digits .ensures ∙ sym (first-digits _ _ _ e))
+    (b .limits .order-most, d .before .before .products .ensures .table, digits-signs (first-limits b (d .last-digits .ensures)) (p .1), first-zero _ _ _ (d .last-digits .ensures))
 
 loop-holds : tie.Need-loop-holds Inv-loop μ-loop
 loop-holds c =

@@ -1,11 +1,11 @@
 -- The invariant: the arrays are the state's after j steps. The measure is what is left of the steps to be
 -- made.
-use mathlib.Core.Path.{_≡_, sym, _∙_}
+use mathlib.Core.Path.{_≡_}
 use mathlib.Core.Bool.{true}
 use Prim.Native.Nat.{_-_, _≤_}
 use native.Mathlib.Omega.{arith}
 use lib.ListN.{length}
-use Rattle.stepping.proofs.Digits.{first-digits}
+use Rattle.stepping.proofs.Digits.{first-zero}
 use Rattle.stepping.proofs.Limits.{may-sum-rows}
 use Rattle.state.specs.Inner.{state-of}
 use Rattle.stepping.proofs.Stepping.{Reached, first-limits, reached-start, reached-may, reached-next, steps-have-room}
@@ -46,7 +46,7 @@ first-row-sums-requires : tie.Need-first-row-sums-requires Inv-loop μ-loop
 first-row-sums-requires c κs =
     let d = c .before .before .before in
     let b = start d .pre .passes in
-    (b .limits .order-most, may-sum-rows (first-limits b (d .last-digits .ensures)), d .before .before .before .row-starts .ensures, d .before .before .row-ends .ensures, λ e. d .last-digits .ensures ∙ sym (first-digits _ _ _ e))
+    (b .limits .order-most, may-sum-rows (first-limits b (d .last-digits .ensures)), d .before .before .before .row-starts .ensures, d .before .before .row-ends .ensures, first-zero _ _ _ (d .last-digits .ensures))
 
 loop-holds : tie.Need-loop-holds Inv-loop μ-loop
 loop-holds c =

@@ -1,5 +1,5 @@
--- The invariant: the rows below i have their new digits, stored too, and residuals, and the others are as they
--- were. The measure is what is left of the rows.
+-- The invariant: the rows below i have their new residuals and digits, and these are stored; all else is as
+-- it was. The measure is what is left of the rows.
 use mathlib.Core.Path.{_≡_, sym}
 use Prim.Native.Nat.{_+_, _*_, _-_, _≤_, _^_}
 use native.Mathlib.Omega.{arith}
