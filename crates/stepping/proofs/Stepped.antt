@@ -116,8 +116,15 @@ pub zeros-dot : (n : ℕ) (row : ℕ → ℤ) {d : List ℤ} (i : ℕ) → d ≡
 zeros-dot n row {d} i e = at-zeros i ∙ sym (dot-none n row (at d) (λ j l. rw e (at-zeros j)))
 
 -- and so with those of a matrix
-pub zeros-summed : {n : ℕ} (g : List ℤ) {d : List ℤ} → d ≡ replicate 16 (pos 0) → Summed n g d (replicate 16 (pos 0))
-zeros-summed {n} g e = record { rows = λ i l. zeros-dot n (entry g i) i e }
+module _ (n : ℕ) (g : List ℤ) {d : List ℤ} (order : n ≤ 16) (e : d ≡ replicate 16 (pos 0)) where
+  zeros-row : (i : ℕ) → (n ≤ i) ⊎ (i < n) → at (replicate 16 (pos 0)) i ≡ at (filled (row-dot n g d) (replicate 16 (pos 0)) n) i
+  zeros-row i (inl m) = sym (filled-past (row-dot n g d) (replicate 16 (pos 0)) n i m)
+  zeros-row i (inr m) = zeros-dot n (entry g i) i e ∙ sym (filled-row (row-dot n g d) (replicate 16 (pos 0)) n i m (omega arith))
+
+  pub zeros-filled : replicate 16 (pos 0) ≡ filled (row-dot n g d) (replicate 16 (pos 0)) n
+  zeros-filled =
+      ext-getD (pos 0) (replicate 16 (pos 0)) (filled (row-dot n g d) (replicate 16 (pos 0)) n) (sym (length-filled (row-dot n g d) (replicate 16 (pos 0)) n))
+      (λ i l. zeros-row i (le-or-lt n i))
 
 -- chosen from the rows' sums, digits and residuals are those of the step
 module _ {n : ℕ} {g d s : List ℤ} (sums : Summed n g d s) (r c p u : ℕ) (z : List ℤ) {q : ℕ} (e : q ≡ r * c) where

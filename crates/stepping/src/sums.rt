@@ -3,11 +3,11 @@
 ghost use mathlib.Core.Path.{_≡_};
 ghost use Prim.Native.Nat.{_+_, _*_, _<_, _≤_};
 ghost use lib.IntN.{pos, natAbs, _+ℤ_};
-ghost use lib.ListN.{length};
+ghost use lib.ListN.{replicate};
 ghost use Rattle.integers.specs.Sum.{dot};
 ghost use Rattle.integers.specs.Flat.{at, entry};
 ghost use Rattle.stepping.specs.Steps.{filled};
-ghost use Rattle.stepping.specs.Inner.{row-dot, Summed, MaySum, MaySumRows, FirstZero, Span, Start, Starts, End, Ends, Tabulated, Table, Products, Signs, TableSums, MayTabulate, MayAdd, added};
+ghost use Rattle.stepping.specs.Inner.{row-dot, MaySum, MaySumRows, FirstZero, Span, Start, Starts, End, Ends, Tabulated, Table, Products, Signs, TableSums, MayTabulate, MayAdd, added};
 use job::ROWS;
 use system::ENTRIES;
 
@@ -114,7 +114,7 @@ pub fn row_sums<'a>(
     }
 }
 
-// The sum of each row below n with the digits d of step k, in an array of their own, with which steps begin.
+// The sum of each row below n with the digits d of step k, with which steps begin, and zeros past row n.
 // Before the first step every digit is 0, and so is every sum.
 pub fn first_row_sums<'a>(
     g: &'a [i64; ENTRIES],
@@ -125,7 +125,7 @@ pub fn first_row_sums<'a>(
     k: usize,
 ) -> [i64; ROWS]
     requires { ⌜ (n ≤ 16) × MaySumRows n (now g) (now d) × Starts n (now g) (now starts) × Ends n (now g) (now ends) × FirstZero k (now d) ⌝ }
-    ensures { λ s. ⌜ (length s ≡ 16) × Summed n (now (g .entry)) (now (d .entry)) s ⌝ }
+    ensures { λ s. ⌜ s ≡ filled (row-dot n (now (g .entry)) (now (d .entry))) (replicate 16 (pos 0)) n ⌝ }
 {
     let mut s = [0i64; ROWS];
     if k == 0 {

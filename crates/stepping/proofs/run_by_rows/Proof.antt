@@ -1,14 +1,15 @@
 -- The invariant: the arrays are the state's after j steps. The measure is what is left of the steps to be
 -- made.
-use mathlib.Core.Path.{_≡_}
+use mathlib.Core.Path.{_≡_, refl}
 use mathlib.Core.Bool.{true}
 use Prim.Native.Nat.{_-_, _≤_}
 use native.Mathlib.Omega.{arith}
-use lib.ListN.{length}
+use lib.IntN.{pos}
+use lib.ListN.{length, replicate}
 use Rattle.stepping.proofs.Digits.{first-zero}
 use Rattle.stepping.proofs.Limits.{may-sum-rows}
 use Rattle.state.specs.Inner.{state-of}
-use Rattle.stepping.proofs.Stepping.{Reached, first-limits, reached-start, reached-may, reached-next, steps-have-room}
+use Rattle.stepping.proofs.Stepping.{Reached, rows-summed, first-limits, reached-start, reached-may, reached-next, steps-have-room}
 use Rattle.stepping.proofs.run_by_rows.Statement.{statement}
 use Rattle.stepping.proofs.run_by_rows.Tie as tie
 
@@ -51,8 +52,9 @@ first-row-sums-requires c κs =
 loop-holds : tie.Need-loop-holds Inv-loop μ-loop
 loop-holds c =
     let d = c .before .before .before .before in
-    let q = c .first-row-sums .ensures in
-    (omega arith, q .0, reached-start (d .last-digits .ensures) (q .1))
+    let j : 0 ≤ start d .args .made = omega arith in
+    let q = rows-summed (replicate 16 (pos 0)) refl (start d .pre .passes .limits .order-most) (c .first-row-sums .ensures) in
+    (j, q .0, reached-start (d .last-digits .ensures) (q .1))
 
 -- ---- a turn
 
