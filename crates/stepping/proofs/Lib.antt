@@ -1,4 +1,4 @@
-pub mod Chosen
+pub mod Residual
 pub mod Turn
 pub mod RowSum
 pub mod Spans

@@ -21,6 +21,7 @@ use Rattle.integers.proofs.Maximum.{le-or-lt}
 use Rattle.job.specs.Header.{radix}
 use Rattle.job.proofs.Limits as limits
 use Rattle.job.specs.declared.Header.{Header}
+use Rattle.selection.specs.Selection.{selection-table}
 use Rattle.stepping.specs.Steps.{filled, last-digits, state-factor, chosen-digits, residuals-left, digits-stored, one-step, steps}
 use Rattle.stepping.specs.Inner.{digit-from, residual-from, Vector, MayChoose, row-dot, Summed, MaySumRows, Signs, Between, MayStepOnce, Stepped, MayStep}
 use Rattle.stepping.proofs.Limits.{KeepsLimits, may-sum-rows, digits-signs, may-choose-from}
@@ -113,8 +114,9 @@ module _ {s : State} {r q bits : ℕ} {before chosen sums : List ℤ} (a : MaySt
   step-limits : KeepsLimits n r (state-factor s) p u (s .g) (s .z) before
   step-limits = rw (a .radix-is, a .bits-are .0) (first-limits (a .may .passes) (a .between .last))
 
-  pub may-choose : (s .k < 60) × (4 ≤ bits) × (bits ≤ 44) × MayChoose n r q p u (s .z) sums
-  may-choose = (omega (arith, steps-have-room (a .may)), a .bits-are .1, a .bits-are .2, rw (a .units-are) (may-choose-from step-limits (a .between .summed)))
+  -- `choices` is the table that is lent
+  pub may-choose : {choices : List ℤ} → choices ≡ selection-table → (choices ≡ selection-table) × (s .k < 60) × (4 ≤ bits) × (bits ≤ 44) × MayChoose n r q p u (s .z) sums
+  may-choose t = (t, omega (arith, steps-have-room (a .may)), a .bits-are .1, a .bits-are .2, rw (a .units-are) (may-choose-from step-limits (a .between .summed)))
 
   -- `new` has what `choose` left in the vector being chosen
   module _ {new : List ℤ} (ec : new ≡ filled (digit-from r q p u (s .z) sums) chosen n) where

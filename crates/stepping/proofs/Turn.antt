@@ -17,7 +17,7 @@ use Rattle.integers.specs.Flat.{at}
 use Rattle.job.specs.Rules.{bound-over, bound-under}
 use Rattle.stepping.specs.Steps.{filled}
 use Rattle.stepping.specs.Inner.{shifted-by, digit-from, residual-from, MayChoose}
-use Rattle.stepping.proofs.Chosen.{unit-within}
+use Rattle.stepping.proofs.Residual.{unit-within}
 use Rattle.stepping.proofs.Stepped.{filled-past}
 
 -- A turn for row i: `v` are the residuals as the loop has them, those of the rows below i new and the

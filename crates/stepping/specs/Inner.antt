@@ -3,7 +3,7 @@
 -- is a row's weight; a row's sum is within 2^48. The unit of residuals is at most 2^44, and w within 2^49.
 use mathlib.Core.{Path._≡_, List.List, Bool.cond}
 use Prim.Native.Nat.{ℕ, _+_, _*_, _^_, _<_, _≤_, _/_, _%_}
-use lib.{IntN.ℤ, IntN.pos, IntN.natAbs, IntN._+ℤ_, IntN._-ℤ_, IntN._*ℤ_, ListN.length, ListN.getD, ListN.replicate, Dec.ltb, Signed.ltZ}
+use lib.{IntN.ℤ, IntN.pos, IntN.natAbs, IntN._+ℤ_, IntN._-ℤ_, IntN._*ℤ_, ListN.length, ListN.getD, ListN.replicate, Dec.ltb}
 use Rattle.integers.specs.{Flat.at, Flat.entry, Sum.dot, Sum.weight}
 use Rattle.job.specs.{Rules.bound-over, Rules.bound-under, Header.radix}
 use Rattle.recurrence.specs.Recurrence.{select}
@@ -117,14 +117,6 @@ pub record MayAdd (t : List ℤ) (place : ℕ) (s : List ℤ) : Type 0 where
 -- and what the sums are then
 abbrev pub added : (t : List ℤ) (place : ℕ) (s : List ℤ) (i : ℕ) → ℤ
 added t place s i = at s i +ℤ at t (place + i)
-
--- ---- the lesser and the greater of two numbers
-
-abbrev pub lesser : ℤ → ℤ → ℤ
-lesser a b = cond (ltZ b a) b a
-
-abbrev pub greater : ℤ → ℤ → ℤ
-greater a b = cond (ltZ a b) b a
 
 -- ---- the choice of one step, from the residuals z and the rows' sums s, a unit of which is q units of w
 

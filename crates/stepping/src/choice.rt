@@ -2,15 +2,15 @@
 // Residuals and w are in units of 1 / 2^f, so that 2^f stands for 1; f is the fraction bits inside a state. A
 // row's sum is in the unit of the frame's numbers, one of which is q units of w.
 ghost use mathlib.Core.Path.{_≡_};
-ghost use Prim.Native.Nat.{_+_, _*_, _/_, _^_, _<_, _≤_};
-ghost use lib.IntN.{pos, natAbs, _+ℤ_, _-ℤ_, _*ℤ_};
+ghost use Prim.Native.Nat.{_+_, _*_, _^_, _<_, _≤_};
+ghost use lib.IntN.{pos, _+ℤ_, _-ℤ_, _*ℤ_};
 ghost use Rattle.integers.specs.Sum.{Within};
 ghost use Rattle.integers.specs.Flat.{stores};
-ghost use Rattle.job.specs.Rules.{bound-over, bound-under};
-ghost use Rattle.recurrence.specs.Recurrence.{estimate, rounded, select};
+ghost use Rattle.selection.specs.Selection.{selection-table};
 ghost use Rattle.stepping.specs.Steps.{filled};
-ghost use Rattle.stepping.specs.Inner.{lesser, greater, digit-from, residual-from, MayChoose};
+ghost use Rattle.stepping.specs.Inner.{digit-from, residual-from, MayChoose};
 use job::ROWS;
+use selection::ESTIMATES;
 use state::DIGITS;
 
 // 2^f, signed.
@@ -19,52 +19,6 @@ fn unit(f: usize) -> i64
     ensures { λ u. ⌜ u ≡ pos (2 ^ f) ⌝ }
 {
     integers::to_signed(integers::pow2(f))
-}
-
-// The estimate of w in 32nds of a unit: w cut down to five fraction bits. A shift rounds downward, for a
-// negative number too. With four fraction bits, the fewest that there are, nothing is cut.
-fn estimate(w: i64, f: usize) -> i64
-    requires { ⌜ (4 ≤ f) × (f ≤ 44) × Within w (2 ^ 49) ⌝ }
-    ensures { λ e. ⌜ e ≡ estimate (2 ^ f) w ⌝ }
-{
-    if f == 4 { 2 * w } else { w >> (f - 5) }
-}
-
-// The lesser of two numbers.
-fn lesser(a: i64, b: i64) -> i64
-    ensures { λ r. ⌜ r ≡ lesser a b ⌝ }
-{
-    if b < a { b } else { a }
-}
-
-// The greater of two numbers.
-fn greater(a: i64, b: i64) -> i64
-    ensures { λ r. ⌜ r ≡ greater a b ⌝ }
-{
-    if a < b { b } else { a }
-}
-
-// The digit of an estimate: half a unit with the estimate's sign is added, and a division with a sign cuts
-// toward zero, so that a tie goes away from zero on both sides. The sum is held to the largest that is still
-// cut to p, as a sum above it would give p + 1.
-fn rounded(e: i64, p: usize) -> i64
-    requires { ⌜ (p ≤ 15) × (natAbs e ≤ bound-under * p + bound-over) ⌝ }
-    ensures { λ q. ⌜ q ≡ rounded p e ⌝ }
-{
-    let most = 32 * (p as i64) + 31;
-    let above = lesser(e + 16, most);
-    let below = greater(e - 16, 0 - most);
-    let up = if e < 0 { below } else { above };
-    up / 32
-}
-
-// The digit that is taken off w.
-fn select(w: i64, f: usize, p: usize) -> i64
-    requires { ⌜ (4 ≤ f) × (f ≤ 44) × (p ≤ 15) × (bound-under * natAbs w ≤ (bound-under * p + bound-over) * 2 ^ f) ⌝ }
-    ensures { λ q. ⌜ q ≡ select p (2 ^ f) w ⌝ }
-{
-    let e = estimate(w, f);
-    rounded(e, p)
 }
 
 // Document 01's w: r times a row's residual z, and its sum s, a unit of which is q units of w.
@@ -86,8 +40,9 @@ fn residual_after(w: i64, q: i64, f: usize) -> i64
 // The choice of the step after the k-th: in `new` the digits chosen from the residuals z and the rows' sums s
 // with the digits of the step before, and in z the residuals that they leave. No row uses a digit that this
 // step has chosen. Each digit is stored in the array of all steps too, where those of a step start 16 after
-// those of the step before. The words past row n stay.
+// those of the step before. The words past row n stay. `choices` is the selection table.
 pub fn choose(
+    choices: &[i8; ESTIMATES],
     s: &[i64; ROWS],
     z: &mut [i64; ROWS],
     new: &mut [i8; ROWS],
@@ -99,7 +54,7 @@ pub fn choose(
     f: usize,
     p: usize,
 )
-    requires { ⌜ (k < 60) × (4 ≤ f) × (f ≤ 44) × MayChoose n r q p (2 ^ f) (now z) (now s) ⌝ }
+    requires { ⌜ (now choices ≡ selection-table) × (k < 60) × (4 ≤ f) × (f ≤ 44) × MayChoose n r q p (2 ^ f) (now z) (now s) ⌝ }
     ensures digits { λ _. ⌜ now (new .exit) ≡ filled (digit-from r q p (2 ^ f) (now (z .entry)) (now (s .entry))) (now (new .entry)) n ⌝ }
     ensures stored { λ _. ⌜ now (digits .exit) ≡ stores (now (digits .entry)) (λ i. 16 * k + i) (digit-from r q p (2 ^ f) (now (z .entry)) (now (s .entry))) n ⌝ }
     ensures residuals { λ _. ⌜ now (z .exit) ≡ filled (residual-from r q p (2 ^ f) (now (z .entry)) (now (s .entry))) (now (z .entry)) n ⌝ }
@@ -108,7 +63,7 @@ pub fn choose(
     let mut i: usize = 0;
     while i < n {
         let w = shifted(z[i], s[i], r, q);
-        let d = select(w, f, p);
+        let d = selection::select(choices, w, f, p);
         let digit = integers::narrow(d);
         new[i] = digit;
         digits[start + i] = digit;

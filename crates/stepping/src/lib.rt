@@ -7,12 +7,14 @@ ghost use mathlib.Core.Bool.{true};
 ghost use Prim.Native.Nat.{_≤_};
 ghost use lib.ListN.{length};
 ghost use Rattle.integers.specs.Flat.{flat-vector};
+ghost use Rattle.selection.specs.Selection.{selection-table};
 ghost use Rattle.stepping.specs.Inner.{Starts, Ends, Products, MayStepOnce, Stepped, MayStep};
 ghost use Rattle.state.specs.State.{digits-of};
 ghost use Rattle.state.specs.Inner.{state-of};
 ghost use Rattle.stepping.specs.Steps.{steps};
 use job::Header;
 use job::ROWS;
+use selection::ESTIMATES;
 use state::DIGITS;
 use sums::PRODUCTS;
 use system::ENTRIES;
@@ -51,6 +53,7 @@ fn step_by_rows<'a>(
     q: usize,
     bits: usize,
     k: usize,
+    choices: &[i8; ESTIMATES],
     g: &'a [i64; ENTRIES],
     starts: &'a [usize; ROWS],
     ends: &'a [usize; ROWS],
@@ -60,12 +63,12 @@ fn step_by_rows<'a>(
     z: &mut [i64; ROWS],
     digits: &mut [i8; DIGITS],
 ) -> [i8; ROWS]
-    requires { ⌜ MayStepOnce (state-of true h scale k (now g) (now z) (now digits)) r q bits before chosen (now sums) × Starts (h .n) (now g) (now starts) × Ends (h .n) (now g) (now ends) × (length (now sums) ≡ 16) ⌝ }
+    requires { ⌜ MayStepOnce (state-of true h scale k (now g) (now z) (now digits)) r q bits before chosen (now sums) × Starts (h .n) (now g) (now starts) × Ends (h .n) (now g) (now ends) × (length (now sums) ≡ 16) × (now choices ≡ selection-table) ⌝ }
     ensures step { λ v. ⌜ Stepped (state-of true h scale k (now (g .entry)) (now (z .entry)) (now (digits .entry))) (now (z .exit)) (now (digits .exit)) v (now (sums .exit)) ⌝ }
     ensures size { λ _. ⌜ length (now (sums .exit)) ≡ 16 ⌝ }
 {
     let n = h.n;
-    choice::choose(sums, z, &mut chosen, digits, n, k, r, q, bits, h.p);
+    choice::choose(choices, sums, z, &mut chosen, digits, n, k, r, q, bits, h.p);
     sums::row_sums(g, starts, ends, &chosen, n, sums);
     chosen
 }
@@ -77,11 +80,12 @@ fn run_by_rows(
     scale: usize,
     k: usize,
     made: usize,
+    choices: &[i8; ESTIMATES],
     g: &[i64; ENTRIES],
     z: &mut [i64; ROWS],
     digits: &mut [i8; DIGITS],
 )
-    requires { ⌜ MayStep (state-of true h scale k (now g) (now z) (now digits)) made ⌝ }
+    requires { ⌜ MayStep (state-of true h scale k (now g) (now z) (now digits)) made × (now choices ≡ selection-table) ⌝ }
     ensures residuals { λ _. ⌜ now (z .exit) ≡ steps (state-of true h scale k (now (g .entry)) (now (z .entry)) (now (digits .entry))) made .z ⌝ }
     ensures digits { λ _. ⌜ now (digits .exit) ≡ steps (state-of true h scale k (now (g .entry)) (now (z .entry)) (now (digits .entry))) made .digits ⌝ }
 {
@@ -103,6 +107,7 @@ fn run_by_rows(
             q,
             bits,
             k + j,
+            choices,
             g,
             &starts,
             &ends,
@@ -127,6 +132,7 @@ fn step_by_columns<'a>(
     q: usize,
     bits: usize,
     k: usize,
+    choices: &[i8; ESTIMATES],
     g: &'a [i64; ENTRIES],
     table: &'a [i64; PRODUCTS],
     before: [i8; ROWS],
@@ -135,11 +141,11 @@ fn step_by_columns<'a>(
     z: &mut [i64; ROWS],
     digits: &mut [i8; DIGITS],
 ) -> [i8; ROWS]
-    requires { ⌜ MayStepOnce (state-of true h scale k (now g) (now z) (now digits)) r q bits before chosen (now sums) × Products (h .n) (now g) (now table) × (h .p ≡ 1) ⌝ }
+    requires { ⌜ MayStepOnce (state-of true h scale k (now g) (now z) (now digits)) r q bits before chosen (now sums) × Products (h .n) (now g) (now table) × (h .p ≡ 1) × (now choices ≡ selection-table) ⌝ }
     ensures { λ v. ⌜ Stepped (state-of true h scale k (now (g .entry)) (now (z .entry)) (now (digits .entry))) (now (z .exit)) (now (digits .exit)) v (now (sums .exit)) ⌝ }
 {
     let n = h.n;
-    choice::choose(sums, z, &mut chosen, digits, n, k, r, q, bits, h.p);
+    choice::choose(choices, sums, z, &mut chosen, digits, n, k, r, q, bits, h.p);
     *sums = sums::column_sums(table, &chosen, n);
     chosen
 }
@@ -151,11 +157,12 @@ fn run_by_columns(
     scale: usize,
     k: usize,
     made: usize,
+    choices: &[i8; ESTIMATES],
     g: &[i64; ENTRIES],
     z: &mut [i64; ROWS],
     digits: &mut [i8; DIGITS],
 )
-    requires { ⌜ MayStep (state-of true h scale k (now g) (now z) (now digits)) made × (h .p ≡ 1) ⌝ }
+    requires { ⌜ MayStep (state-of true h scale k (now g) (now z) (now digits)) made × (h .p ≡ 1) × (now choices ≡ selection-table) ⌝ }
     ensures residuals { λ _. ⌜ now (z .exit) ≡ steps (state-of true h scale k (now (g .entry)) (now (z .entry)) (now (digits .entry))) made .z ⌝ }
     ensures digits { λ _. ⌜ now (digits .exit) ≡ steps (state-of true h scale k (now (g .entry)) (now (z .entry)) (now (digits .entry))) made .digits ⌝ }
 {
@@ -175,6 +182,7 @@ fn run_by_columns(
             q,
             bits,
             k + j,
+            choices,
             g,
             &table,
             before,
@@ -225,9 +233,10 @@ pub fn make_steps(
     ensures residuals { λ _. ⌜ now (z .exit) ≡ steps (state-of true h scale k (now (g .entry)) (now (z .entry)) (now (digits .entry))) made .z ⌝ }
     ensures digits { λ _. ⌜ now (digits .exit) ≡ steps (state-of true h scale k (now (g .entry)) (now (z .entry)) (now (digits .entry))) made .digits ⌝ }
 {
+    let choices = selection::table();
     if table_pays(g, h.n, h.p, made) {
-        run_by_columns(h, scale, k, made, g, z, digits);
+        run_by_columns(h, scale, k, made, &choices, g, z, digits);
     } else {
-        run_by_rows(h, scale, k, made, g, z, digits);
+        run_by_rows(h, scale, k, made, &choices, g, z, digits);
     }
 }

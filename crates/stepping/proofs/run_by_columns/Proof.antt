@@ -14,11 +14,11 @@ use Rattle.stepping.proofs.run_by_columns.Statement.{statement}
 use Rattle.stepping.proofs.run_by_columns.Tie as tie
 
 abbrev Inv-loop : tie.InvT-loop
-Inv-loop h scale k made g z₀ digits₀ n q bits table before₀ chosen₀ sums₀ j₀ z digits before chosen sums j =
+Inv-loop h scale k made choices g z₀ digits₀ n q bits table before₀ chosen₀ sums₀ j₀ z digits before chosen sums j =
     (j ≤ made) × Reached (state-of true h scale k g z₀ digits₀) j digits z before chosen sums
 
 abbrev μ-loop : tie.MeasureT-loop
-μ-loop h scale k made g z₀ digits₀ n q bits table before₀ chosen₀ sums₀ j₀ z digits before chosen sums j = made - j
+μ-loop h scale k made choices g z₀ digits₀ n q bits table before₀ chosen₀ sums₀ j₀ z digits before chosen sums j = made - j
 
 sum-factor-requires : tie.Need-sum-factor-requires Inv-loop μ-loop
 sum-factor-requires c κs = let p = c .pre .0 .passes in (p .limits, p .scaled)
@@ -66,6 +66,7 @@ step-by-columns-requires c κs =
           (d .before .before .before .before .sum-factor .ensures) (d .before .before .before .inner-bits .ensures),
       d .before .before .products .ensures,
       p .1,
+      p .2,
     )
 
 abbrev taken : tie.After-step-by-columns Inv-loop μ-loop → tie.In-loop Inv-loop μ-loop

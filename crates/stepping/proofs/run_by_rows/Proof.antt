@@ -14,29 +14,29 @@ use Rattle.stepping.proofs.run_by_rows.Statement.{statement}
 use Rattle.stepping.proofs.run_by_rows.Tie as tie
 
 abbrev Inv-loop : tie.InvT-loop
-Inv-loop h scale k made g z₀ digits₀ n r q bits starts ends before₀ chosen₀ sums₀ j₀ z digits before chosen sums j =
+Inv-loop h scale k made choices g z₀ digits₀ n r q bits starts ends before₀ chosen₀ sums₀ j₀ z digits before chosen sums j =
     (j ≤ made) × (length sums ≡ 16) × Reached (state-of true h scale k g z₀ digits₀) j digits z before chosen sums
 
 abbrev μ-loop : tie.MeasureT-loop
-μ-loop h scale k made g z₀ digits₀ n r q bits starts ends before₀ chosen₀ sums₀ j₀ z digits before chosen sums j = made - j
+μ-loop h scale k made choices g z₀ digits₀ n r q bits starts ends before₀ chosen₀ sums₀ j₀ z digits before chosen sums j = made - j
 
 radix-requires : tie.Need-radix-requires Inv-loop μ-loop
-radix-requires c κs = c .pre .passes .limits .code-most
+radix-requires c κs = c .pre .0 .passes .limits .code-most
 
 sum-factor-requires : tie.Need-sum-factor-requires Inv-loop μ-loop
-sum-factor-requires c κs = let p = c .before .pre .passes in (p .limits, p .scaled)
+sum-factor-requires c κs = let p = c .before .pre .0 .passes in (p .limits, p .scaled)
 
 inner-bits-requires : tie.Need-inner-bits-requires Inv-loop μ-loop
-inner-bits-requires c κs = let p = c .before .before .pre .passes in (p .limits, p .scaled)
+inner-bits-requires c κs = let p = c .before .before .pre .0 .passes in (p .limits, p .scaled)
 
 row-starts-requires : tie.Need-row-starts-requires Inv-loop μ-loop
-row-starts-requires c κs = let l = c .before .before .before .pre .passes .limits in (l .order-least, l .order-most)
+row-starts-requires c κs = let l = c .before .before .before .pre .0 .passes .limits in (l .order-least, l .order-most)
 
 row-ends-requires : tie.Need-row-ends-requires Inv-loop μ-loop
-row-ends-requires c κs = c .before .before .before .before .pre .passes .limits .order-most
+row-ends-requires c κs = c .before .before .before .before .pre .0 .passes .limits .order-most
 
 last-digits-requires : tie.Need-last-digits-requires Inv-loop μ-loop
-last-digits-requires c κs = let b = c .before .before .before .before .before .before .pre in (omega (arith, steps-have-room b), b .passes .limits .order-most)
+last-digits-requires c κs = let b = c .before .before .before .before .before .before .pre .0 in (omega (arith, steps-have-room b), b .passes .limits .order-most)
 
 -- ---- the first sums
 
@@ -46,14 +46,14 @@ start d = d .before .before .before .before .before .before .before
 first-row-sums-requires : tie.Need-first-row-sums-requires Inv-loop μ-loop
 first-row-sums-requires c κs =
     let d = c .before .before .before in
-    let b = start d .pre .passes in
+    let b = start d .pre .0 .passes in
     (b .limits .order-most, may-sum-rows (first-limits b (d .last-digits .ensures)), d .before .before .before .row-starts .ensures, d .before .before .row-ends .ensures, first-zero _ _ _ (d .last-digits .ensures))
 
 loop-holds : tie.Need-loop-holds Inv-loop μ-loop
 loop-holds c =
     let d = c .before .before .before .before in
     let j : 0 ≤ start d .args .made = omega arith in
-    let q = rows-summed (replicate 16 (pos 0)) refl (start d .pre .passes .limits .order-most) (c .first-row-sums .ensures) in
+    let q = rows-summed (replicate 16 (pos 0)) refl (start d .pre .0 .passes .limits .order-most) (c .first-row-sums .ensures) in
     (j, q .0, reached-start (d .last-digits .ensures) (q .1))
 
 -- ---- a turn
@@ -62,25 +62,26 @@ abbrev begun : tie.In-loop Inv-loop μ-loop → tie.After-last-digits Inv-loop �
 begun i = i .before .before .before .before .before .before
 
 add-step-by-rows : tie.Need-add-step-by-rows Inv-loop μ-loop
-add-step-by-rows c = omega (arith, steps-have-room (start (begun c) .pre), c .loop-test .taken)
+add-step-by-rows c = omega (arith, steps-have-room (start (begun c) .pre .0), c .loop-test .taken)
 
 step-by-rows-requires : tie.Need-step-by-rows-requires Inv-loop μ-loop
 step-by-rows-requires c κs =
     let i = c .before .before .before .before .before in
     let d = begun i in
     let v = i .before .loop .inv in (
-      reached-may (start d .pre) (i .loop-test .taken) (v .2) _ _ _ (d .before .before .before .before .before .before .radix .ensures)
+      reached-may (start d .pre .0) (i .loop-test .taken) (v .2) _ _ _ (d .before .before .before .before .before .before .radix .ensures)
           (d .before .before .before .before .before .sum-factor .ensures) (d .before .before .before .before .inner-bits .ensures),
       d .before .before .before .row-starts .ensures,
       d .before .before .row-ends .ensures,
       v .1,
+      start d .pre .1,
     )
 
 abbrev taken : tie.After-step-by-rows Inv-loop μ-loop → tie.In-loop Inv-loop μ-loop
 taken c = c .before .before .before .before .before .before
 
 add-j : tie.Need-add-j Inv-loop μ-loop
-add-j c = let i = taken c in omega (arith, steps-have-room (start (begun i) .pre), i .loop-test .taken)
+add-j c = let i = taken c in omega (arith, steps-have-room (start (begun i) .pre .0), i .loop-test .taken)
 
 loop-less : tie.Need-loop-less Inv-loop μ-loop
 loop-less c = omega arith
@@ -89,7 +90,7 @@ loop-again : tie.Need-loop-again Inv-loop μ-loop
 loop-again c =
     let i = taken c in
     let o = c .step-by-rows .ensures in
-    (omega arith, o .1, reached-next (start (begun i) .pre) (i .loop-test .taken) (i .before .loop .inv .2) (o .0))
+    (omega arith, o .1, reached-next (start (begun i) .pre .0) (i .loop-test .taken) (i .before .loop .inv .2) (o .0))
 
 returns : tie.Need-returns Inv-loop μ-loop
 returns c =

@@ -14,14 +14,14 @@ use Rattle.stepping.proofs.choice.choose.Statement.{statement}
 use Rattle.stepping.proofs.choice.choose.Tie as tie
 
 abbrev Inv-loop : tie.InvT-loop
-Inv-loop s z₀ new₀ digits₀ n k r q f p start i₀ z new digits i =
+Inv-loop choices s z₀ new₀ digits₀ n k r q f p start i₀ z new digits i =
     (i ≤ n)
     × (z ≡ filled (residual-from r q p (2 ^ f) z₀ s) z₀ i)
     × (new ≡ filled (digit-from r q p (2 ^ f) z₀ s) new₀ i)
     × (digits ≡ stores digits₀ (λ t. 16 * k + t) (digit-from r q p (2 ^ f) z₀ s) i)
 
 abbrev μ-loop : tie.MeasureT-loop
-μ-loop s z₀ new₀ digits₀ n k r q f p start i₀ z new digits i = n - i
+μ-loop choices s z₀ new₀ digits₀ n k r q f p start i₀ z new digits i = n - i
 
 mul-start : tie.Need-mul-start Inv-loop μ-loop
 mul-start c = omega arith
@@ -45,7 +45,7 @@ begun : (c : tie.In-loop Inv-loop μ-loop) → let s = c .before .before in
     Begun (s .args .z .now) (s .args .s .now) (s .args .n) (s .args .r) (s .args .q) (s .args .p) (s .args .f) (c .before .loop .i) (c .before .loop .z)
 begun c =
     let s = c .before .before in
-    record { bits = (s .pre .1, s .pre .2); may = s .pre .3; below = c .loop-test .taken; so-far = c .before .loop .inv .1 }
+    record { bits = (s .pre .2, s .pre .3); may = s .pre .4; below = c .loop-test .taken; so-far = c .before .loop .inv .1 }
 
 shifted-requires : tie.Need-shifted-requires Inv-loop μ-loop
 shifted-requires c κs = let h = begun (c .before .before) in (h .may .radix, h .may .units, z-within h, s-within h)
@@ -53,7 +53,7 @@ shifted-requires c κs = let h = begun (c .before .before) in (h .may .radix, h 
 select-requires : tie.Need-select-requires Inv-loop μ-loop
 select-requires c κs =
     let h = begun (c .before .before .before) in
-    (h .bits .0, h .bits .1, h .may .largest, w-bound h _ (c .shifted .ensures))
+    (h .bits .0, h .bits .1, h .may .largest, w-bound h _ (c .shifted .ensures), c .before .before .before .before .before .pre .0)
 
 narrow-requires : tie.Need-narrow-requires Inv-loop μ-loop
 narrow-requires c κs =
@@ -75,8 +75,8 @@ residual-after-requires c κs =
     let w = c .before .before .shifted .ensures in
     (h .bits .1, w-within h _ w, d-within h _ w _ (c .before .select .ensures) (omega arith))
 
-mul-t17 : tie.Need-mul-t17 Inv-loop μ-loop
-mul-t17 c = omega arith
+mul-t18 : tie.Need-mul-t18 Inv-loop μ-loop
+mul-t18 c = omega arith
 
 element-set-from-z : tie.Need-element-set-from-z Inv-loop μ-loop
 element-set-from-z c = omega arith
@@ -124,7 +124,7 @@ choose-spec =
     add-digit
     element-set-from-digit-2
     residual-after-requires
-    mul-t17
+    mul-t18
     element-set-from-z
     add-i
     loop-less

@@ -1,6 +1,6 @@
 -- A digit times the unit is small.
 use borrow.Author.Needs.{needs}
-use Rattle.stepping.proofs.Chosen.{taken-fits, left-fits, left-is}
+use Rattle.stepping.proofs.Residual.{taken-fits, left-fits, left-is}
 use Rattle.stepping.proofs.choice.residual_after.Statement.{statement}
 use Rattle.stepping.proofs.choice.residual_after.Tie as tie
 

@@ -4,7 +4,7 @@ use native.Mathlib.Omega.{arith}
 use lib.IntN.{pos}
 use mir.Syntax.{w64}
 use mir.Facts.{toZ-ofZ}
-use Rattle.stepping.proofs.Chosen.{unit-within}
+use Rattle.stepping.proofs.Residual.{unit-within}
 use Rattle.stepping.proofs.choice.unit.Statement.{statement}
 use Rattle.stepping.proofs.choice.unit.Tie as tie
 

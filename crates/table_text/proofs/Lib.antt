@@ -1,0 +1,5 @@
+pub mod Entries
+pub mod Lines
+pub mod Comparing
+pub mod Answers
+pub mod Example
