@@ -1,6 +1,6 @@
 // check_selection_table: holds printed selection tables, the files named as its arguments, against the table
-// that the library chooses by, entry by entry; - names standard input. It prints a line for each: that it is the
-// table, or where the two first differ. Where a file cannot be read, a line on standard error says so.
+// that the library chooses by, entry by entry; - names standard input. It prints a line for each: that it is
+// the table, or where the two first differ. Where a file cannot be read, a line on standard error says so.
 //
 // The table's text has fewer than 4,096 bytes, so that the first 4,096 of a longer file tell.
 use selection::ESTIMATES;
@@ -25,8 +25,8 @@ fn print_digit(d: i8) {
     io::print_decimal(1, integers::magnitude(integers::widen(d)));
 }
 
-// What is said of the first entry that the text has otherwise, at place k: its line, its estimate, and what it
-// should be.
+// What is said of the first entry that the text has otherwise, at place k: its line, its estimate, and what
+// it should be.
 fn print_difference(k: usize) {
     let t = selection::table();
     if ESTIMATES <= k {

@@ -1,6 +1,6 @@
--- The digit of an estimate and the digit of w, as the code has them: the place in the table, the entry there,
--- and numbers that calls gave. Cited by the proofs of `digit_at` and `select`, and by those that read the table
--- as text.
+-- The digit of an estimate and the digit of w, as the code has them: the place in the table, the entry
+-- there, and numbers that calls gave. Cited by the proofs of `digit_at` and `select`, and by that of
+-- `compare_table`.
 use mathlib.Core.Path.{_≡_, refl, ap, _∙_}
 use mathlib.Core.List.{List}
 use Prim.Native.Nat.{ℕ, _+_, _*_, _^_, _<_, _≤_}

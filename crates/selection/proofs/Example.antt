@@ -26,8 +26,8 @@ tie-below : (place-of (negsuc 15) < 1024) × (at selection-table 496 ≡ negsuc 
 unfolding nearest
 tie-below = table-rule (negsuc 15) (omega zarith, omega zarith)
 
--- the theorem on the choice: at unit 64 the estimate of -31 is -16 parts, which is in the table, and the digit
--- by the table, which is -1, is the recurrence's
+-- the theorem on the choice: at unit 64 the estimate of -31 is -16 parts, which is in the table, and the
+-- digit by the table, which is -1, is the recurrence's
 estimate-inside : InTable (negsuc 15)
 unfolding estimate cut-down
 estimate-inside = table-selects 3 64 (negsuc 30) (omega arith) (omega arith) (omega arith) .0

@@ -1,5 +1,5 @@
--- An entry held back as the code does it, by the greater and the lesser of two numbers. Cited by the proofs of
--- `lesser`, `greater` and `held_back`.
+-- An entry held back as the code does it, by the greater and the lesser of two numbers. Cited by the proofs
+-- of `lesser`, `greater` and `held_back`.
 use mathlib.Core.Path.{_≡_, refl, sym, ap, ap₂, _∙_}
 use mathlib.Core.Bool.{Bool, true, false, cond}
 use Prim.Native.Nat.{ℕ, zero, suc, _≤_, min}

@@ -1,5 +1,5 @@
--- What the contracts of inner functions cite; a reader of the promises can skip it: the lesser and the greater
--- of two numbers, by which an entry is held back.
+-- What the contracts of inner functions cite; a reader of the promises can skip it. The lesser and the
+-- greater of two numbers, by which an entry is held back.
 use mathlib.Core.Bool.{cond}
 use lib.{IntN.ℤ, Signed.ltZ}
 

@@ -1,5 +1,5 @@
-// The choice of one digit, as the array makes it: an estimate of w, and its entry in the selection table, held
-// back to p or -p. w is in units of 1 / 2^f, so that 2^f stands for 1.
+// The choice of one digit, as the array makes it: an estimate of w, and its entry in the selection table,
+// held back to p or -p. w is in units of 1 / 2^f, so that 2^f stands for 1.
 ghost use mathlib.Core.Path.{_≡_};
 ghost use Prim.Native.Nat.{_+_, _*_, _^_, _≤_};
 ghost use lib.IntN.{natAbs};

@@ -219,7 +219,8 @@ fn table_pays(g: &[i64; ENTRIES], n: usize, p: usize, made: usize) -> bool
     g[16 + (n - 1)] != 0
 }
 
-// Makes the steps, in the way that is likely to be faster. For callers that know their state to pass 24.
+// Makes the steps, in the way that is likely to be faster. The selection table is made here, once for all of
+// them. For callers that know their state to pass 24.
 pub fn make_steps(
     h: Header,
     scale: usize,

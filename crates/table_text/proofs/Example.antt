@@ -1,5 +1,5 @@
--- The table's text in numbers: how it begins and how long it is, the least room, and what is said of texts that
--- are damaged or go on.
+-- The table's text in numbers: how it begins and how long it is, the least room, and what is said of texts
+-- that are damaged or go on.
 use mathlib.Core.Path.{_≡_, refl, ap}
 use mathlib.Core.Bool.{true, false}
 use mathlib.Core.List.{List, [], _∷_, _++_}

@@ -26,8 +26,8 @@ pub struct Compared {
     pub agreeing: usize,
 }
 
-// The whole number nearest to e / 32, a tie away from zero: half a unit with e's sign is added, and a division
-// with a sign cuts toward zero, so that magnitudes are rounded, those of negative numbers too.
+// The whole number nearest to e / 32, a tie away from zero: half a unit with e's sign is added, and a
+// division with a sign cuts toward zero, so that magnitudes are rounded, those of negative numbers too.
 fn nearest(e: i64) -> i64
     requires { ⌜ InTable e ⌝ }
     ensures { λ q. ⌜ q ≡ nearest e ⌝ }

@@ -1,3 +1,5 @@
+-- The computed test over all entries: the array in the code is the list that the rule gives. `table-rule`
+-- (Chosen.antt) is what follows for each entry.
 use mathlib.Core.Path.{_≡_, refl}
 use Rattle.integers.specs.Flat.{list-from}
 use Rattle.selection.specs.Selection.{selection-table, nearest}
