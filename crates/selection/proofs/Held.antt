@@ -37,14 +37,17 @@ unfolding held
 at-most p (pos a) t = ap pos (omega (zarith, t))
 at-most p (negsuc a) t = absurd (omega (zarith, t))
 
-at-least : (p : ℕ) (z : ℤ) → ltZ z (negℤ (pos p)) ≡ true → negℤ (pos p) ≡ held p z
+at-least : (p : ℕ) (z : ℤ) → ltZ (negℤ (pos p)) z ≡ false → negℤ (pos p) ≡ held p z
 unfolding held
-at-least p (pos a) t = absurd (omega (zarith, t, posPart-neg (pos p), negPart-neg (pos p)))
+at-least p (pos a) t = low p a (omega (zarith, t, posPart-neg (pos p), negPart-neg (pos p)))
+  where
+    low : (p a : ℕ) → (p ≡ 0) × (a ≡ 0) → negℤ (pos p) ≡ pos (min a p)
+    low p a e = rw (e .0, e .1) refl
 at-least p (negsuc a) t =
     let e : p ≡ min (suc a) p = omega (zarith, t, posPart-neg (pos p), negPart-neg (pos p)) in
     ap (λ (n : ℕ). negℤ (pos n)) e
 
-between : (p : ℕ) (z : ℤ) → ltZ (pos p) z ≡ false → ltZ z (negℤ (pos p)) ≡ false → z ≡ held p z
+between : (p : ℕ) (z : ℤ) → ltZ (pos p) z ≡ false → ltZ (negℤ (pos p)) z ≡ true → z ≡ held p z
 unfolding held
 between p (pos a) t s = ap pos (omega (zarith, t))
 between p (negsuc a) t s =
@@ -55,16 +58,16 @@ least-below : (p : ℕ) → ltZ (pos p) (negℤ (pos p)) ≡ false
 least-below zero = refl
 least-below (suc q) = refl
 
-held-is : (p : ℕ) (z : ℤ) → lesser (greater z (negℤ (pos p))) (pos p) ≡ held p z
-held-is p z = by-least (ltZ z (negℤ (pos p))) refl
+held-is : (p : ℕ) (z : ℤ) → lesser (greater (negℤ (pos p)) z) (pos p) ≡ held p z
+held-is p z = by-least (ltZ (negℤ (pos p)) z) refl
   where
-    by-most : (b : Bool) → ltZ (pos p) z ≡ b → ltZ z (negℤ (pos p)) ≡ false → cond b (pos p) z ≡ held p z
+    by-most : (b : Bool) → ltZ (pos p) z ≡ b → ltZ (negℤ (pos p)) z ≡ true → cond b (pos p) z ≡ held p z
     by-most true t s = at-most p z t
     by-most false t s = between p z t s
 
-    by-least : (b : Bool) → ltZ z (negℤ (pos p)) ≡ b → lesser (cond b (negℤ (pos p)) z) (pos p) ≡ held p z
-    by-least true s = rw (least-below p) (at-least p z s)
-    by-least false s = by-most (ltZ (pos p) z) refl s
+    by-least : (b : Bool) → ltZ (negℤ (pos p)) z ≡ b → lesser (cond b z (negℤ (pos p))) (pos p) ≡ held p z
+    by-least true s = by-most (ltZ (pos p) z) refl s
+    by-least false s = rw (least-below p) (at-least p z s)
 
 pub held-small : (p : ℕ) (z : ℤ) → natAbs (held p z) ≤ p
 unfolding held
@@ -81,18 +84,18 @@ module _ (p : ℕ) (hp : p ≤ 15) where
   least-read : toZ w64 (ofZ w64 (pos 0 -ℤ toZ w64 p)) ≡ negℤ (pos p)
   least-read = let a = the-most in machine-eq (search machs depth 9) tt (+ℤ-idl (negℤ (pos p)))
 
-  raised-small : (z : ℤ) → natAbs z ≤ 16 → natAbs (greater z (negℤ (pos p))) ≤ 16
+  raised-small : (z : ℤ) → natAbs z ≤ 16 → natAbs (greater (negℤ (pos p)) z) ≤ 16
   raised-small z h =
-      cond-both (ltZ z (negℤ (pos p))) (negℤ (pos p)) z (λ x. natAbs x ≤ 16) (λ _. rw (abs-neg (pos p)) (omega arith)) (λ _. h)
+      cond-both (ltZ (negℤ (pos p)) z) z (negℤ (pos p)) (λ x. natAbs x ≤ 16) (λ _. h) (λ _. rw (abs-neg (pos p)) (omega arith))
 
   -- `raised` is what `greater` gave, and `q` what `lesser` did
   pub held-back-is : (z raised q : ℤ) → Within z 16
-      → raised ≡ greater (toZ w64 (ofZ w64 z)) (toZ w64 (ofZ w64 (pos 0 -ℤ toZ w64 p)))
+      → raised ≡ greater (toZ w64 (ofZ w64 (pos 0 -ℤ toZ w64 p))) (toZ w64 (ofZ w64 z))
       → q ≡ lesser (toZ w64 (ofZ w64 raised)) (toZ w64 p) → toZ w64 (ofZ w64 q) ≡ held p z
   held-back-is z raised q h e f =
       let k : toZ w64 (ofZ w64 z) ≡ z = machine-eq (search machs depth 9) tt refl in
-      let a = known raised (greater z (negℤ (pos p))) 16 (e ∙ ap₂ greater k least-read) (raised-small z (h .abs)) in
-      let r : toZ w64 (ofZ w64 raised) ≡ greater z (negℤ (pos p)) = machine-eq (search machs depth 9) tt refl in
+      let a = known raised (greater (negℤ (pos p)) z) 16 (e ∙ ap₂ greater least-read k) (raised-small z (h .abs)) in
+      let r : toZ w64 (ofZ w64 raised) ≡ greater (negℤ (pos p)) z = machine-eq (search machs depth 9) tt refl in
       let m : toZ w64 p ≡ pos p = let b = the-most in machine-eq b tt refl in
       let b = known q (held p z) 15 (f ∙ ap₂ lesser r m ∙ held-is p z) (omega (arith, held-small p z)) in
       machine-eq (search machs depth 9) tt refl

@@ -37,13 +37,14 @@ fn greater(a: i64, b: i64) -> i64
     if a < b { b } else { a }
 }
 
-// An entry held back to p, or to -p.
+// An entry held back to p, or to -p. The tests have the entry on the side on which a digit of p or of -p, as
+// half of those of radix 2 are, goes the way of all others: only an entry that is held goes another.
 fn held_back(entry: i64, p: usize) -> i64
     requires { ⌜ (p ≤ 15) × Within entry 16 ⌝ }
     ensures { λ q. ⌜ q ≡ held p entry ⌝ }
 {
     let most = p as i64;
-    let raised = greater(entry, 0 - most);
+    let raised = greater(0 - most, entry);
     lesser(raised, most)
 }
 

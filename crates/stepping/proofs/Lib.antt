@@ -1,8 +1,10 @@
 pub mod Residual
 pub mod Turn
-pub mod RowSum
-pub mod Spans
+pub mod Shifted
+pub mod ColumnSpan
+pub mod ColumnSum
 pub mod Table
+pub mod Listing
 pub mod Limits
 pub mod Stepped
 pub mod Steps

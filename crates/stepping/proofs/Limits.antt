@@ -1,5 +1,5 @@
--- What a job that can make a step lets the code do: sum its rows, tabulate their products, and choose a
--- digit in each. Cited by the proofs of the functions that make several steps.
+-- What a job that can make a step lets the code do: sum its rows, place its columns, and choose a digit in
+-- each row. Cited by the proofs of the functions that make several steps.
 use mathlib.Core.Path.{_≡_, refl}
 use mathlib.Core.List.{List}
 use Prim.Native.Nat.{ℕ, zero, suc, _*_, _/_, _^_, _<_, _≤_}
@@ -17,7 +17,7 @@ use Rattle.recurrence.specs.Recurrence.{shifted, LightRows, WithinBounds}
 use Rattle.recurrence.proofs.Theorems.{bound}
 use Rattle.stepping.specs.Inner.{row-dot, MayChoose, Signs, Summed, MaySumRows, MayTabulate}
 use Rattle.stepping.specs.Steps.{finer}
-use Rattle.stepping.proofs.RowSum.{shifted-together}
+use Rattle.stepping.proofs.Shifted.{shifted-together}
 
 -- digits up to 1 are those of radix 2
 pub radix-two : {h : Header} → Limits h → h .p ≡ 1 → 2 ≡ radix (h .code)

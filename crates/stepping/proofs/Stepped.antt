@@ -21,7 +21,7 @@ use Rattle.job.specs.Rules.{bound-over, bound-under}
 use Rattle.stepping.specs.Steps.{filled, finer, stepped-digits, stepped-residuals}
 use Rattle.stepping.specs.Inner.{digit-from, residual-from, Vector, row-dot, Summed}
 use Rattle.stepping.proofs.Limits.{KeepsLimits}
-use Rattle.stepping.proofs.RowSum.{shifted-together}
+use Rattle.stepping.proofs.Shifted.{shifted-together}
 
 -- ---- a list filled in the rows below n
 

@@ -1,6 +1,6 @@
 -- One step, and a loop over steps: what a step's calls ask and leave, the arrays after j steps of a state,
--- and one turn of the loop. Cited by the proofs of `step_by_rows`, `step_by_columns`, `run_by_rows`,
--- `run_by_columns` and `advance`.
+-- and one turn of the loop. Cited by the proofs of `step_by_spans`, `step_by_signs`, `run_by_spans`,
+-- `run_by_signs` and `advance`.
 use mathlib.Core.Path.{_≡_, refl, sym, _∙_}
 use mathlib.Core.List.{List}
 use mathlib.Core.Logic.{_⊎_, inl, inr}

@@ -4,7 +4,8 @@
 use mathlib.Core.{Path._≡_, List.List, Bool.cond}
 use Prim.Native.Nat.{ℕ, _+_, _*_, _^_, _<_, _≤_, _/_, _%_}
 use lib.{IntN.ℤ, IntN.pos, IntN.natAbs, IntN._+ℤ_, IntN._-ℤ_, IntN._*ℤ_, ListN.length, ListN.getD, ListN.replicate, Dec.ltb}
-use Rattle.integers.specs.{Flat.at, Flat.entry, Sum.dot, Sum.weight}
+use Rattle.integers.specs.{Flat.at, Flat.entry, Sum.sum, Sum.dot, Sum.weight}
+use Rattle.column.specs.Column.{skipped, column, Zeros}
 use Rattle.job.specs.{Rules.bound-over, Rules.bound-under, Header.radix}
 use Rattle.recurrence.specs.Recurrence.{select}
 use Rattle.state.specs.{declared.State.State, State.PassesLimits, State.state-last, State.state-unit, State.all-steps}
@@ -35,64 +36,59 @@ MaySumRows n g d = (i : ℕ) → i < n → MaySum g i n d
 abbrev pub FirstZero : (k : ℕ) (d : List ℤ) → Type 0
 FirstZero k d = k ≡ 0 → d ≡ replicate 16 (pos 0)
 
--- ---- where a row has its entries
+-- ---- one column after the other, each multiplied by its digit
 
--- the entries of a row in the columns from a on and below b are 0
-abbrev pub Zeros : (ℕ → ℤ) → ℕ → ℕ → Type 0
-Zeros row a b = (j : ℕ) → a ≤ j → j < b → row j ≡ pos 0
-
--- past column 0, a row of n columns has no entry other than 0 before lo or from hi on
-pub record Span (row : ℕ → ℤ) (n lo hi : ℕ) : Type 0 where
-  pub first : 1 ≤ lo
-  pub most : lo ≤ n
-  pub last : hi ≤ n
-  pub before : Zeros row 1 lo
-  pub after : Zeros row hi n
-
--- such a column lo of row i, and one for each row
-abbrev pub Start : (n : ℕ) (g : List ℤ) (i lo : ℕ) → Type 0
-Start n g i lo = (1 ≤ lo) × (lo ≤ n) × Zeros (entry g i) 1 lo
+-- column j has no entry other than 0 before row lo; and one such row for each column
+abbrev pub Start : (n : ℕ) (g : List ℤ) (j lo : ℕ) → Type 0
+Start n g j lo = (lo ≤ n) × Zeros (column g j) 0 lo
 
 abbrev pub Starts : (n : ℕ) (g : List ℤ) (starts : List ℕ) → Type 0
-Starts n g starts = (i : ℕ) → i < n → Start n g i (getD starts i 0)
+Starts n g starts = (j : ℕ) → j < n → Start n g j (getD starts j 0)
 
--- the same of hi
-abbrev pub End : (n : ℕ) (g : List ℤ) (i hi : ℕ) → Type 0
-End n g i hi = (hi ≤ n) × Zeros (entry g i) hi n
+-- nor from row hi on
+abbrev pub End : (n : ℕ) (g : List ℤ) (j hi : ℕ) → Type 0
+End n g j hi = (hi ≤ n) × Zeros (column g j) hi n
 
 abbrev pub Ends : (n : ℕ) (g : List ℤ) (ends : List ℕ) → Type 0
-Ends n g ends = (i : ℕ) → i < n → End n g i (getD ends i 0)
+Ends n g ends = (j : ℕ) → j < n → End n g j (getD ends j 0)
 
--- ---- the table of products with -1, 0 and 1, for digits of radix 2: a block of 256 for each of the three,
--- in which the 16 rows of a column stand one after the other
+-- the products of column 0 with the digit d fit
+pub record MayBegin (n : ℕ) (g : List ℤ) (d : ℤ) : Type 0 where
+  pub entries : (i : ℕ) → i < n → natAbs (entry g i 0) ≤ 2 ^ 40
+  pub digit : natAbs d ≤ 15
 
--- how many products it has
-abbrev pub product-count : ℕ
-product-count = 3 * 256
+abbrev pub first-product : (g : List ℤ) (d : ℤ) (i : ℕ) → ℤ
+first-product g d i = entry g i 0 *ℤ d
+
+-- ---- the columns and their negatives, for digits of radix 2: a half of 256 for the negatives and one for the
+-- columns, in each of which the 16 rows of a column stand one after the other
+
+-- how many numbers these are
+abbrev pub both-halves : ℕ
+both-halves = 2 * 256
 
 -- the entry of row e % 16 in column e / 16, 0 past row n
 abbrev pub cell : ℕ → List ℤ → ℕ → ℤ
 cell n g e = cond (ltb (e % 16) n) (entry g (e % 16) (e / 16)) (pos 0)
 
--- the cells below e stand in the first block, as negatives, and in the last, and all else has zeros
+-- the cells below e stand in the first half, as negatives, and in the second, and all else has zeros
 pub record Tabulated (n : ℕ) (g t : List ℤ) (e : ℕ) : Type 0 where
-  pub size : length t ≡ product-count
+  pub size : length t ≡ both-halves
   pub negatives : (k : ℕ) → k < e → at t k ≡ pos 0 -ℤ cell n g k
-  pub zeros : (k : ℕ) → k < 256 → at t (256 + k) ≡ pos 0
-  pub entries : (k : ℕ) → k < e → at t (512 + k) ≡ cell n g k
-  pub rest : (k : ℕ) → e ≤ k → k < 256 → (at t k ≡ pos 0) × (at t (512 + k) ≡ pos 0)
+  pub entries : (k : ℕ) → k < e → at t (256 + k) ≡ cell n g k
+  pub rest : (k : ℕ) → e ≤ k → k < 256 → (at t k ≡ pos 0) × (at t (256 + k) ≡ pos 0)
 
--- row i as the table's last block has it
+-- row i as the second half has it
 abbrev pub table-row : List ℤ → ℕ → ℕ → ℤ
-table-row t i j = at t (512 + (16 * j + i))
+table-row t i j = at t (256 + (16 * j + i))
 
--- block c of a table is its last block times c - 1, and no magnitude in it is above 2^40
+-- the first half has the negatives of the second, and no magnitude in it is above 2^40
 pub record Table (n : ℕ) (t : List ℤ) : Type 0 where
-  pub blocks : (c e : ℕ) → c < 3 → e < 16 * n → at t (256 * c + e) ≡ (pos c -ℤ pos 1) *ℤ at t (512 + e)
-  pub small : (e : ℕ) → e < 16 * n → natAbs (at t (512 + e)) ≤ 2 ^ 40
+  pub negatives : (e : ℕ) → e < 16 * n → at t e ≡ pos 0 -ℤ at t (256 + e)
+  pub small : (e : ℕ) → e < 16 * n → natAbs (at t (256 + e)) ≤ 2 ^ 40
 
 -- a table of the matrix that g holds
-pub record Products (n : ℕ) (g t : List ℤ) : Type 0 where
+pub record Columns (n : ℕ) (g t : List ℤ) : Type 0 where
   pub table : Table n t
   pub entries : (i j : ℕ) → i < n → j < n → table-row t i j ≡ entry g i j
 
@@ -108,15 +104,46 @@ TableSums n t d s = (i : ℕ) → i < 16 → at s i ≡ dot n (table-row t i) (a
 abbrev pub MayTabulate : (n : ℕ) (g : List ℤ) → Type 0
 MayTabulate n g = (i j : ℕ) → i < n → j < n → natAbs (entry g i j) ≤ 2 ^ 40
 
--- the 16 products of a column, from a place in the table on, may be added to the sums
+-- ---- the columns that are not skipped
+
+-- where column j, or its negative, starts in the table for the digit d
+abbrev pub column-place : (d : ℤ) (j : ℕ) → ℕ
+column-place d j = 128 * natAbs (d +ℤ pos 1) + 16 * j
+
+-- the columns listed after one with the digit d
+abbrev pub counted : (d : ℤ) (count : ℕ) → ℕ
+counted d count = cond (skipped d) count (count + 1)
+
+-- what column j brings to a sum over the columns, x being what stands at a place: nothing where it is skipped
+abbrev pub brought : (x : ℕ → ℤ) (d : ℤ) (j : ℕ) → ℤ
+brought x d j = cond (skipped d) (pos 0) (x (column-place d j))
+
+-- the first `count` places of the list are those of the columns below n that are not skipped: a bound on what
+-- the columns bring holds at each place listed, and a sum over the places is one over the columns
+pub record Listed (n : ℕ) (d : List ℤ) (list : List ℕ) (count : ℕ) : Type 0 where
+  pub size : length list ≡ 16
+  pub few : count ≤ n
+  pub each : (x : ℕ → ℤ) (B : ℕ) → ((j : ℕ) → j < n → natAbs (brought x (at d j) j) ≤ B) → (c : ℕ) → c < count → natAbs (x (getD list c 0)) ≤ B
+  pub sums : (x : ℕ → ℤ) → sum count (λ c. x (getD list c 0)) ≡ sum n (λ j. brought x (at d j) j)
+
+-- the 16 numbers from a place in the table on may be added to the sums
 pub record MayAdd (t : List ℤ) (place : ℕ) (s : List ℤ) : Type 0 where
-  pub inside : place + 16 ≤ product-count
+  pub inside : place + 16 ≤ both-halves
   pub sums : (i : ℕ) → i < 16 → natAbs (at s i) ≤ 2 ^ 48
-  pub products : (i : ℕ) → i < 16 → natAbs (at t (place + i)) ≤ 2 ^ 48
+  pub products : (i : ℕ) → i < 16 → natAbs (at t (place + i)) ≤ 2 ^ 40
 
 -- and what the sums are then
 abbrev pub added : (t : List ℤ) (place : ℕ) (s : List ℤ) (i : ℕ) → ℤ
 added t place s i = at s i +ℤ at t (place + i)
+
+-- those from each place listed may be added one after the other
+pub record MayAddListed (t : List ℤ) (list : List ℕ) (count : ℕ) : Type 0 where
+  pub few : count ≤ 16
+  pub inside : (c : ℕ) → c < count → getD list c 0 + 16 ≤ both-halves
+  pub products : (c i : ℕ) → c < count → i < 16 → natAbs (at t (getD list c 0 + i)) ≤ 2 ^ 40
+
+abbrev pub ListedSums : (t : List ℤ) (list : List ℕ) (count : ℕ) (s : List ℤ) → Type 0
+ListedSums t list count s = (i : ℕ) → i < 16 → at s i ≡ sum count (λ c. at t (getD list c 0 + i))
 
 -- ---- the choice of one step, from the residuals z and the rows' sums s, a unit of which is q units of w
 

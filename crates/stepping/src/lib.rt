@@ -1,30 +1,32 @@
-// Steps of a job. A step sums the rows with the digits of the step before, and then chooses a digit in each
-// row. The rows are summed in one of two ways, and `make_steps` takes the one that is likely to be faster.
-// Its contract is an equality with `steps` of specs/Steps.antt, which also says what steps have to do with
-// the recurrence.
+// Steps of a job. A step adds, as the array does, one column after the other over all rows, each with its digit
+// of the step before, skips those whose digit is 0, and then chooses a digit in each row. A column is multiplied
+// by its digit, or in radix 2 added or taken off, and `make_steps` takes what is likely to be faster. Its
+// contract is an equality with `steps` of specs/Steps.antt, which also says what steps have to do with the
+// recurrence.
 ghost use mathlib.Core.Path.{_≡_};
 ghost use mathlib.Core.Bool.{true};
 ghost use Prim.Native.Nat.{_≤_};
 ghost use lib.ListN.{length};
 ghost use Rattle.integers.specs.Flat.{flat-vector};
 ghost use Rattle.selection.specs.Selection.{selection-table};
-ghost use Rattle.stepping.specs.Inner.{Starts, Ends, Products, MayStepOnce, Stepped, MayStep};
+ghost use Rattle.stepping.specs.Inner.{Starts, Ends, Columns, MayStepOnce, Stepped, MayStep};
 ghost use Rattle.state.specs.State.{digits-of};
 ghost use Rattle.state.specs.Inner.{state-of};
 ghost use Rattle.stepping.specs.Steps.{steps};
 use job::Header;
 use job::ROWS;
 use selection::ESTIMATES;
+use signs::BOTH;
 use state::DIGITS;
-use sums::PRODUCTS;
 use system::ENTRIES;
 
 mod choice; // choice.rt: a digit in each row
-mod sums; // sums.rt: the rows' sums, in two ways
+mod signs; // signs.rt: the rows' sums in radix 2, each column added or taken off
+mod spans; // spans.rt: the rows' sums, each column multiplied by its digit
 
 // The digits of step k in the rows below n: 0 before the first step and past row n. In the array of all
 // digits those of a step start 16 after those of the step before.
-fn last_digits(digits: &[i8; DIGITS], k: usize, n: usize) -> [i8; ROWS]
+pub fn last_digits(digits: &[i8; DIGITS], k: usize, n: usize) -> [i8; ROWS]
     requires { ⌜ (k ≤ 60) × (n ≤ 16) ⌝ }
     ensures { λ d. ⌜ d ≡ flat-vector n (digits-of (now (digits .entry)) k) ⌝ }
 {
@@ -41,12 +43,12 @@ fn last_digits(digits: &[i8; DIGITS], k: usize, n: usize) -> [i8; ROWS]
     d
 }
 
-// The step after the k-th, with each row summed over the columns in which it has entries. The vector of the
-// step before and the vector being chosen go in by value, and the one chosen comes back; the caller swaps
-// the two. `sums` comes in with the rows' sums with the step before, whose digits the code need not
-// look at again, and goes out with those of the next step. These are made here, from the vector just chosen,
-// since a copy of it has to wait until the single digits are written.
-fn step_by_rows<'a>(
+// The step after the k-th, with each column multiplied by its digit. The vector of the step before and the
+// vector being chosen go in by value, and the one chosen comes back; the caller swaps the two. `sums` comes in
+// with the rows' sums with the step before, whose digits the code need not look at again, and goes out with
+// those of the next step. These are made here, from the vector just chosen, since a copy of it has to wait until
+// the single digits are written.
+fn step_by_spans<'a>(
     h: Header,
     scale: usize,
     r: usize,
@@ -69,13 +71,13 @@ fn step_by_rows<'a>(
 {
     let n = h.n;
     choice::choose(choices, sums, z, &mut chosen, digits, n, k, r, q, bits, h.p);
-    sums::row_sums(g, starts, ends, &chosen, n, sums);
+    spans::column_sums(g, starts, ends, &chosen, n, sums);
     chosen
 }
 
-// Makes the steps with each row summed over the columns in which it has entries. After each step the two
-// vectors change places: the one just chosen is the step before of the next.
-fn run_by_rows(
+// Makes the steps with each column multiplied by its digit. After each step the two vectors change places: the
+// one just chosen is the step before of the next.
+fn run_by_spans(
     h: Header,
     scale: usize,
     k: usize,
@@ -93,14 +95,14 @@ fn run_by_rows(
     let r = job::radix(h.code);
     let q = job::sum_factor(h, scale);
     let bits = job::inner_bits(h, scale);
-    let starts = sums::row_starts(g, n);
-    let ends = sums::row_ends(g, n);
+    let starts = spans::column_starts(g, n);
+    let ends = spans::column_ends(g, n);
     let mut before = last_digits(digits, k, n);
     let mut chosen = [0i8; ROWS];
-    let mut sums = sums::first_row_sums(g, &starts, &ends, &before, n, k);
+    let mut sums = spans::first_sums(g, &starts, &ends, &before, n, k);
     let mut j: usize = 0;
     while j < made {
-        let newest = step_by_rows(
+        let newest = step_by_spans(
             h,
             scale,
             r,
@@ -123,9 +125,9 @@ fn run_by_rows(
     }
 }
 
-// The same step in radix 2, with the products looked up in a table, column by column. The table is that of
-// g, which the contract alone names.
-fn step_by_columns<'a>(
+// The same step in radix 2, with each column added or taken off. The columns are those of g, which the contract
+// alone names.
+fn step_by_signs<'a>(
     h: Header,
     scale: usize,
     r: usize,
@@ -134,25 +136,25 @@ fn step_by_columns<'a>(
     k: usize,
     choices: &[i8; ESTIMATES],
     g: &'a [i64; ENTRIES],
-    table: &'a [i64; PRODUCTS],
+    columns: &'a [i64; BOTH],
     before: [i8; ROWS],
     mut chosen: [i8; ROWS],
     sums: &mut [i64; ROWS],
     z: &mut [i64; ROWS],
     digits: &mut [i8; DIGITS],
 ) -> [i8; ROWS]
-    requires { ⌜ MayStepOnce (state-of true h scale k (now g) (now z) (now digits)) r q bits before chosen (now sums) × Products (h .n) (now g) (now table) × (h .p ≡ 1) × (now choices ≡ selection-table) ⌝ }
+    requires { ⌜ MayStepOnce (state-of true h scale k (now g) (now z) (now digits)) r q bits before chosen (now sums) × Columns (h .n) (now g) (now columns) × (h .p ≡ 1) × (now choices ≡ selection-table) ⌝ }
     ensures { λ v. ⌜ Stepped (state-of true h scale k (now (g .entry)) (now (z .entry)) (now (digits .entry))) (now (z .exit)) (now (digits .exit)) v (now (sums .exit)) ⌝ }
 {
     let n = h.n;
     choice::choose(choices, sums, z, &mut chosen, digits, n, k, r, q, bits, h.p);
-    *sums = sums::column_sums(table, &chosen, n);
+    *sums = signs::column_sums(columns, &chosen, n);
     chosen
 }
 
-// Makes the steps with the products looked up in a table; the two vectors change places as above. The radix
-// of digits up to 1 is 2.
-fn run_by_columns(
+// Makes the steps with each column added or taken off; the two vectors change places as above. The radix of
+// digits up to 1 is 2.
+fn run_by_signs(
     h: Header,
     scale: usize,
     k: usize,
@@ -169,13 +171,13 @@ fn run_by_columns(
     let n = h.n;
     let q = job::sum_factor(h, scale);
     let bits = job::inner_bits(h, scale);
-    let table = sums::products(g, n);
+    let columns = signs::columns(g, n);
     let mut before = last_digits(digits, k, n);
     let mut chosen = [0i8; ROWS];
-    let mut sums = sums::first_column_sums(&table, &before, n, k);
+    let mut sums = signs::first_sums(&columns, &before, n, k);
     let mut j: usize = 0;
     while j < made {
-        let newest = step_by_columns(
+        let newest = step_by_signs(
             h,
             scale,
             2,
@@ -184,7 +186,7 @@ fn run_by_columns(
             k + j,
             choices,
             g,
-            &table,
+            &columns,
             before,
             chosen,
             &mut sums,
@@ -197,20 +199,20 @@ fn run_by_columns(
     }
 }
 
-// Whether steps with a table of products are likely to be faster, the time to make the table included: in
-// radix 2, with enough rows and steps, where the first two rows have an entry in the last column. The rows
-// of a polynomial and of a rational curve have few entries.
-fn table_pays(g: &[i64; ENTRIES], n: usize, p: usize, made: usize) -> bool
-    requires { ⌜ n ≤ 16 ⌝ }
+// Whether steps with columns added or taken off are likely to be faster, the time to place the columns
+// included: in radix 2, with enough rows and steps, where the first two rows have an entry in the last column.
+// The columns of a curve have few entries.
+fn signs_pay(g: &[i64; ENTRIES], n: usize, p: usize, made: usize) -> bool
+    requires { ⌜ (n ≤ 16) × (made ≤ 60) ⌝ }
     ensures { λ b. ⌜ (b ≡ true → p ≡ 1) ⌝ }
 {
     if p != 1 {
         return false;
     }
-    if n < 8 {
+    if n < 4 {
         return false;
     }
-    if made < 4 {
+    if made * n < 64 {
         return false;
     }
     if g[n - 1] == 0 {
@@ -219,8 +221,8 @@ fn table_pays(g: &[i64; ENTRIES], n: usize, p: usize, made: usize) -> bool
     g[16 + (n - 1)] != 0
 }
 
-// Makes the steps, in the way that is likely to be faster. The selection table is made here, once for all of
-// them. For callers that know their state to pass 24.
+// Makes the steps. The selection table is made here, once for all of them. For callers that know their state to
+// pass 24.
 pub fn make_steps(
     h: Header,
     scale: usize,
@@ -235,9 +237,9 @@ pub fn make_steps(
     ensures digits { λ _. ⌜ now (digits .exit) ≡ steps (state-of true h scale k (now (g .entry)) (now (z .entry)) (now (digits .entry))) made .digits ⌝ }
 {
     let choices = selection::table();
-    if table_pays(g, h.n, h.p, made) {
-        run_by_columns(h, scale, k, made, &choices, g, z, digits);
+    if signs_pay(g, h.n, h.p, made) {
+        run_by_signs(h, scale, k, made, &choices, g, z, digits);
     } else {
-        run_by_rows(h, scale, k, made, &choices, g, z, digits);
+        run_by_spans(h, scale, k, made, &choices, g, z, digits);
     }
 }

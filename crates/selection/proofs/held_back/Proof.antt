@@ -1,4 +1,4 @@
--- The greater of the entry and -p, and of that and p the lesser.
+-- The greater of -p and the entry, and of that and p the lesser.
 use borrow.Author.Needs.{needs}
 use Rattle.selection.proofs.Held.{least-fits, held-back-is}
 use Rattle.selection.proofs.held_back.Statement.{statement}

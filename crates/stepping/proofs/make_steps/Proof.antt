@@ -6,17 +6,17 @@ use Rattle.stepping.proofs.make_steps.Tie as tie
 table-requires : tie.Need-table-requires
 table-requires c κs = search needs
 
-table-pays-requires : tie.Need-table-pays-requires
-table-pays-requires c κs = search needs
+signs-pay-requires : tie.Need-signs-pay-requires
+signs-pay-requires c κs = search needs
 
-run-by-columns-requires : tie.Need-run-by-columns-requires
-run-by-columns-requires c κs =
+run-by-signs-requires : tie.Need-run-by-signs-requires
+run-by-signs-requires c κs =
     let t = c .before .before .before in
     let d = t .before .before in
-    (d .before .pre, t .before .table-pays .ensures (t .if1 .taken), d .table .ensures)
+    (d .before .pre, t .before .signs-pay .ensures (t .if1 .taken), d .table .ensures)
 
-run-by-rows-requires : tie.Need-run-by-rows-requires
-run-by-rows-requires c κs = search needs
+run-by-spans-requires : tie.Need-run-by-spans-requires
+run-by-spans-requires c κs = search needs
 
 returns : tie.Need-returns
 returns c = search needs
@@ -29,8 +29,8 @@ make-steps-spec =
     tie.close
     (tie.spec
     table-requires
-    table-pays-requires
-    run-by-columns-requires
-    run-by-rows-requires
+    signs-pay-requires
+    run-by-signs-requires
+    run-by-spans-requires
     returns
     returns-2)

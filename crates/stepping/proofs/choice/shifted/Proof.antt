@@ -1,6 +1,6 @@
 -- Both products are small, and so is their sum.
 use borrow.Author.Needs.{needs}
-use Rattle.stepping.proofs.RowSum.{left-fits, right-fits, shifted-fits, shifted-is}
+use Rattle.stepping.proofs.Shifted.{left-fits, right-fits, shifted-fits, shifted-is}
 use Rattle.stepping.proofs.choice.shifted.Statement.{statement}
 use Rattle.stepping.proofs.choice.shifted.Tie as tie
 

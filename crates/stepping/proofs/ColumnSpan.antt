@@ -1,0 +1,59 @@
+-- The rows in which a column can have an entry other than 0. Cited by the proofs of `column_start`,
+-- `column_end` and the two that call them.
+use mathlib.Core.Path.{_≡_, refl, sym, _∙_}
+use mathlib.Core.List.{List}
+use mathlib.Core.Logic.{_⊎_, inl, inr}
+use Prim.Native.Nat.{ℕ, _+_, _^_, _<_, _≤_}
+use native.Mathlib.Omega.{arith}
+use lib.IntN.{ℤ, pos}
+use lib.ListN.{length, getD, set, length-set}
+use lib.Seq.{getD-set-same, getD-set-other}
+use lib.Signed.{mag}
+use mir.Syntax.{w64}
+use mir.Val.{ofZ}
+use Rattle.integers.proofs.Maximum.{le-or-lt}
+use Rattle.column.specs.Column.{Zeros}
+use Rattle.integers.proofs.Machine.{i64-kept}
+
+-- an entry whose bits are all 0
+pub read-zero : (x : ℤ) → mag x < 2 ^ 63 → ofZ w64 x ≡ 0 → x ≡ pos 0
+read-zero x h e = sym (i64-kept x h) ∙ rw e refl
+
+-- ---- rows of zeros
+
+module _ (f : ℕ → ℤ) where
+  -- none
+  pub no-zeros : (a : ℕ) → Zeros f a a
+  no-zeros a j l m = absurd (omega arith)
+
+  -- one more, after them or before them
+  pub zeros-after : {a b : ℕ} → Zeros f a b → f b ≡ pos 0 → Zeros f a (b + 1)
+  zeros-after {a} {b} h e j l m = by-case (le-or-lt b j)
+    where
+      by-case : (b ≤ j) ⊎ (j < b) → f j ≡ pos 0
+      by-case (inl k) = let same : j ≡ b = omega arith in rw same e
+      by-case (inr k) = h j l k
+
+  pub zeros-before : {a b : ℕ} (c : ℕ) → c + 1 ≡ a → Zeros f a b → f c ≡ pos 0 → Zeros f c b
+  zeros-before {a} {b} c s h e j l m = by-case (le-or-lt a j)
+    where
+      by-case : (a ≤ j) ⊎ (j < a) → f j ≡ pos 0
+      by-case (inl k) = h j k m
+      by-case (inr k) = let same : j ≡ c = omega arith in rw same e
+
+-- ---- what a loop over the columns finds for each column
+
+-- v has a number for each column below i, and Q holds of it
+pub record Found (Q : ℕ → ℕ → Type 0) (v : List ℕ) (i : ℕ) : Type 0 where
+  pub size : length v ≡ 16
+  pub columns : (t : ℕ) → t < i → Q t (getD v t 0)
+
+pub found-none : (Q : ℕ → ℕ → Type 0) (v : List ℕ) → length v ≡ 16 → Found Q v 0
+found-none Q v h = record { size = h; columns = λ t l. absurd (omega arith) }
+
+pub found-next : {Q : ℕ → ℕ → Type 0} {v : List ℕ} {i x : ℕ} → i < 16 → Found Q v i → Q i x → Found Q (set v i x) (i + 1)
+found-next {Q} {v} {i} {x} l h q = record { size = length-set v i x ∙ h .size; columns = λ t m. by-case t m (le-or-lt i t) }
+  where
+    by-case : (t : ℕ) → t < i + 1 → (i ≤ t) ⊎ (t < i) → Q t (getD (set v i x) t 0)
+    by-case t m (inl k) = let e : t ≡ i = omega arith in rw (e, getD-set-same v i x 0 (omega (arith, h .size))) q
+    by-case t m (inr k) = rw (getD-set-other v i t x 0 (λ e. omega arith)) (h .columns t k)

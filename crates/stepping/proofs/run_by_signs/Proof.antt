@@ -1,0 +1,109 @@
+-- The invariant: the arrays are the state's after j steps. The measure is what is left of the steps to be
+-- made.
+use mathlib.Core.Path.{_≡_}
+use mathlib.Core.Bool.{true}
+use Prim.Native.Nat.{_-_, _≤_}
+use native.Mathlib.Omega.{arith}
+use Rattle.stepping.proofs.Digits.{first-zero}
+use Rattle.stepping.proofs.Limits.{radix-two, may-tabulate, digits-signs}
+use Rattle.stepping.proofs.Table.{table-summed}
+use Rattle.state.specs.Inner.{state-of}
+use Rattle.stepping.proofs.Kept as kept
+use Rattle.stepping.proofs.Stepping.{Reached, first-limits, reached-start, reached-may, reached-next, steps-have-room}
+use Rattle.stepping.proofs.run_by_signs.Statement.{statement}
+use Rattle.stepping.proofs.run_by_signs.Tie as tie
+
+abbrev Inv-loop : tie.InvT-loop
+Inv-loop h scale k made choices g z₀ digits₀ n q bits columns before₀ chosen₀ sums₀ j₀ z digits before chosen sums j =
+    (j ≤ made) × Reached (state-of true h scale k g z₀ digits₀) j digits z before chosen sums
+
+abbrev μ-loop : tie.MeasureT-loop
+μ-loop h scale k made choices g z₀ digits₀ n q bits columns before₀ chosen₀ sums₀ j₀ z digits before chosen sums j = made - j
+
+sum-factor-requires : tie.Need-sum-factor-requires Inv-loop μ-loop
+sum-factor-requires c κs = let p = c .pre .0 .passes in (p .limits, p .scaled)
+
+inner-bits-requires : tie.Need-inner-bits-requires Inv-loop μ-loop
+inner-bits-requires c κs = let p = c .before .pre .0 .passes in (p .limits, p .scaled)
+
+columns-requires : tie.Need-columns-requires Inv-loop μ-loop
+columns-requires c κs = let b = c .before .before .pre .0 .passes in (b .limits .order-most, may-tabulate (kept.keeps-limits _ b))
+
+last-digits-requires : tie.Need-last-digits-requires Inv-loop μ-loop
+last-digits-requires c κs = let b = c .before .before .before .before .pre .0 in (omega (arith, steps-have-room b), b .passes .limits .order-most)
+
+-- ---- the first sums
+
+abbrev start : tie.After-last-digits Inv-loop μ-loop → tie.Start Inv-loop μ-loop
+start d = d .before .before .before .before .before
+
+first-sums-requires : tie.Need-first-sums-requires Inv-loop μ-loop
+first-sums-requires c κs =
+    let d = c .before .before in
+    let p = start d .pre in
+    let b = p .0 .passes in
+    (b .limits .order-most, d .before .before .columns .ensures .table, digits-signs (first-limits b (d .last-digits .ensures)) (p .1), first-zero _ _ _ (d .last-digits .ensures))
+
+loop-holds : tie.Need-loop-holds Inv-loop μ-loop
+loop-holds c =
+    let d = c .before .before .before in
+    (omega arith, reached-start (d .last-digits .ensures) (table-summed _ _ (start d .pre .0 .passes .limits .order-most) (d .before .before .columns .ensures) (c .first-sums .ensures)))
+
+-- ---- a turn
+
+abbrev begun : tie.In-loop Inv-loop μ-loop → tie.After-last-digits Inv-loop μ-loop
+begun i = i .before .before .before .before .before
+
+add-step-by-signs : tie.Need-add-step-by-signs Inv-loop μ-loop
+add-step-by-signs c = omega (arith, steps-have-room (start (begun c) .pre .0), c .loop-test .taken)
+
+step-by-signs-requires : tie.Need-step-by-signs-requires Inv-loop μ-loop
+step-by-signs-requires c κs =
+    let i = c .before .before .before .before in
+    let d = begun i in
+    let p = start d .pre in (
+      reached-may (p .0) (i .loop-test .taken) (i .before .loop .inv .1) _ _ _ (radix-two (p .0 .passes .limits) (p .1))
+          (d .before .before .before .before .sum-factor .ensures) (d .before .before .before .inner-bits .ensures),
+      d .before .before .columns .ensures,
+      p .1,
+      p .2,
+    )
+
+abbrev taken : tie.After-step-by-signs Inv-loop μ-loop → tie.In-loop Inv-loop μ-loop
+taken c = c .before .before .before .before .before
+
+add-j : tie.Need-add-j Inv-loop μ-loop
+add-j c = let i = taken c in omega (arith, steps-have-room (start (begun i) .pre .0), i .loop-test .taken)
+
+loop-less : tie.Need-loop-less Inv-loop μ-loop
+loop-less c = omega arith
+
+loop-again : tie.Need-loop-again Inv-loop μ-loop
+loop-again c =
+    let i = taken c in
+    (omega arith, reached-next (start (begun i) .pre .0) (i .loop-test .taken) (i .before .loop .inv .1) (c .step-by-signs .ensures))
+
+returns : tie.Need-returns Inv-loop μ-loop
+returns c =
+    let l = c .before .loop in
+    let e : l .j ≡ start (c .before .before .before .before .before) .args .made = omega arith in
+    (rw e at (l .inv .1 .residuals), rw e at (l .inv .1 .digits))
+
+pub run-by-signs-spec : {M : Type 1} → statement M
+run-by-signs-spec =
+    tie.close
+    (tie.spec
+    Inv-loop
+    μ-loop
+    sum-factor-requires
+    inner-bits-requires
+    columns-requires
+    last-digits-requires
+    first-sums-requires
+    loop-holds
+    add-step-by-signs
+    step-by-signs-requires
+    add-j
+    loop-less
+    loop-again
+    returns)

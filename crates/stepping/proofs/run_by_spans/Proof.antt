@@ -1,0 +1,120 @@
+-- The invariant: the arrays are the state's after j steps. The measure is what is left of the steps to be
+-- made.
+use mathlib.Core.Path.{_≡_, refl}
+use mathlib.Core.Bool.{true}
+use Prim.Native.Nat.{_-_, _≤_}
+use native.Mathlib.Omega.{arith}
+use lib.IntN.{pos}
+use lib.ListN.{length, replicate}
+use Rattle.stepping.proofs.Digits.{first-zero}
+use Rattle.stepping.proofs.Limits.{may-sum-rows}
+use Rattle.state.specs.Inner.{state-of}
+use Rattle.stepping.proofs.Stepping.{Reached, rows-summed, first-limits, reached-start, reached-may, reached-next, steps-have-room}
+use Rattle.stepping.proofs.run_by_spans.Statement.{statement}
+use Rattle.stepping.proofs.run_by_spans.Tie as tie
+
+abbrev Inv-loop : tie.InvT-loop
+Inv-loop h scale k made choices g z₀ digits₀ n r q bits starts ends before₀ chosen₀ sums₀ j₀ z digits before chosen sums j =
+    (j ≤ made) × (length sums ≡ 16) × Reached (state-of true h scale k g z₀ digits₀) j digits z before chosen sums
+
+abbrev μ-loop : tie.MeasureT-loop
+μ-loop h scale k made choices g z₀ digits₀ n r q bits starts ends before₀ chosen₀ sums₀ j₀ z digits before chosen sums j = made - j
+
+radix-requires : tie.Need-radix-requires Inv-loop μ-loop
+radix-requires c κs = c .pre .0 .passes .limits .code-most
+
+sum-factor-requires : tie.Need-sum-factor-requires Inv-loop μ-loop
+sum-factor-requires c κs = let p = c .before .pre .0 .passes in (p .limits, p .scaled)
+
+inner-bits-requires : tie.Need-inner-bits-requires Inv-loop μ-loop
+inner-bits-requires c κs = let p = c .before .before .pre .0 .passes in (p .limits, p .scaled)
+
+column-starts-requires : tie.Need-column-starts-requires Inv-loop μ-loop
+column-starts-requires c κs = c .before .before .before .pre .0 .passes .limits .order-most
+
+column-ends-requires : tie.Need-column-ends-requires Inv-loop μ-loop
+column-ends-requires c κs = c .before .before .before .before .pre .0 .passes .limits .order-most
+
+last-digits-requires : tie.Need-last-digits-requires Inv-loop μ-loop
+last-digits-requires c κs = let b = c .before .before .before .before .before .before .pre .0 in (omega (arith, steps-have-room b), b .passes .limits .order-most)
+
+-- ---- the first sums
+
+abbrev start : tie.After-last-digits Inv-loop μ-loop → tie.Start Inv-loop μ-loop
+start d = d .before .before .before .before .before .before .before
+
+first-sums-requires : tie.Need-first-sums-requires Inv-loop μ-loop
+first-sums-requires c κs =
+    let d = c .before .before .before in
+    let b = start d .pre .0 .passes in
+    (b .limits .order-least, b .limits .order-most, may-sum-rows (first-limits b (d .last-digits .ensures)), d .before .before .before .column-starts .ensures, d .before .before .column-ends .ensures, first-zero _ _ _ (d .last-digits .ensures))
+
+loop-holds : tie.Need-loop-holds Inv-loop μ-loop
+loop-holds c =
+    let d = c .before .before .before .before in
+    let j : 0 ≤ start d .args .made = omega arith in
+    let q = rows-summed (replicate 16 (pos 0)) refl (start d .pre .0 .passes .limits .order-most) (c .first-sums .ensures) in
+    (j, q .0, reached-start (d .last-digits .ensures) (q .1))
+
+-- ---- a turn
+
+abbrev begun : tie.In-loop Inv-loop μ-loop → tie.After-last-digits Inv-loop μ-loop
+begun i = i .before .before .before .before .before .before
+
+add-step-by-spans : tie.Need-add-step-by-spans Inv-loop μ-loop
+add-step-by-spans c = omega (arith, steps-have-room (start (begun c) .pre .0), c .loop-test .taken)
+
+step-by-spans-requires : tie.Need-step-by-spans-requires Inv-loop μ-loop
+step-by-spans-requires c κs =
+    let i = c .before .before .before .before .before in
+    let d = begun i in
+    let v = i .before .loop .inv in (
+      reached-may (start d .pre .0) (i .loop-test .taken) (v .2) _ _ _ (d .before .before .before .before .before .before .radix .ensures)
+          (d .before .before .before .before .before .sum-factor .ensures) (d .before .before .before .before .inner-bits .ensures),
+      d .before .before .before .column-starts .ensures,
+      d .before .before .column-ends .ensures,
+      v .1,
+      start d .pre .1,
+    )
+
+abbrev taken : tie.After-step-by-spans Inv-loop μ-loop → tie.In-loop Inv-loop μ-loop
+taken c = c .before .before .before .before .before .before
+
+add-j : tie.Need-add-j Inv-loop μ-loop
+add-j c = let i = taken c in omega (arith, steps-have-room (start (begun i) .pre .0), i .loop-test .taken)
+
+loop-less : tie.Need-loop-less Inv-loop μ-loop
+loop-less c = omega arith
+
+loop-again : tie.Need-loop-again Inv-loop μ-loop
+loop-again c =
+    let i = taken c in
+    let o = c .step-by-spans .ensures in
+    (omega arith, o .1, reached-next (start (begun i) .pre .0) (i .loop-test .taken) (i .before .loop .inv .2) (o .0))
+
+returns : tie.Need-returns Inv-loop μ-loop
+returns c =
+    let l = c .before .loop in
+    let e : l .j ≡ start (c .before .before .before .before .before .before) .args .made = omega arith in
+    (rw e at (l .inv .2 .residuals), rw e at (l .inv .2 .digits))
+
+pub run-by-spans-spec : {M : Type 1} → statement M
+run-by-spans-spec =
+    tie.close
+    (tie.spec
+    Inv-loop
+    μ-loop
+    radix-requires
+    sum-factor-requires
+    inner-bits-requires
+    column-starts-requires
+    column-ends-requires
+    last-digits-requires
+    first-sums-requires
+    loop-holds
+    add-step-by-spans
+    step-by-spans-requires
+    add-j
+    loop-less
+    loop-again
+    returns)

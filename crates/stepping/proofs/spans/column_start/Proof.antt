@@ -1,0 +1,62 @@
+-- The invariant: the column has no entry other than 0 before row lo. The measure is what is left of the rows.
+use Prim.Native.Nat.{_-_, _≤_}
+use native.Mathlib.Omega.{arith}
+use Rattle.column.specs.Column.{column, Zeros}
+use Rattle.stepping.proofs.ColumnSpan.{no-zeros, zeros-after, read-zero}
+use Rattle.stepping.proofs.spans.column_start.Statement.{statement}
+use Rattle.stepping.proofs.spans.column_start.Tie as tie
+
+abbrev Inv-loop : tie.InvT-loop
+Inv-loop g j n lo₀ lo = (lo ≤ n) × Zeros (column g j) 0 lo
+
+abbrev μ-loop : tie.MeasureT-loop
+μ-loop g j n lo₀ lo = n - lo
+
+loop-holds : tie.Need-loop-holds Inv-loop μ-loop
+loop-holds c = (omega arith, no-zeros _ 0)
+
+mul-if1 : tie.Need-mul-if1 Inv-loop μ-loop
+mul-if1 c = omega arith
+
+add-if1 : tie.Need-add-if1 Inv-loop μ-loop
+add-if1 c = omega arith
+
+mul-if1-2 : tie.Need-mul-if1-2 Inv-loop μ-loop
+mul-if1-2 c = omega arith
+
+element-copy-out-if1 : tie.Need-element-copy-out-if1 Inv-loop μ-loop
+element-copy-out-if1 c = omega arith
+
+returns : tie.Need-returns Inv-loop μ-loop
+returns c = c .before .before .before .loop .inv
+
+add-lo : tie.Need-add-lo Inv-loop μ-loop
+add-lo c = omega arith
+
+loop-less : tie.Need-loop-less Inv-loop μ-loop
+loop-less c = omega arith
+
+loop-again : tie.Need-loop-again Inv-loop μ-loop
+loop-again c =
+    let l = c .before .before .before .loop in
+    (omega arith, zeros-after _ (l .inv .1) (read-zero _ (c .before .if12 .given) (c .if1 .left)))
+
+returns-2 : tie.Need-returns-2 Inv-loop μ-loop
+returns-2 c = c .before .loop .inv
+
+pub column-start-spec : {M : Type 1} → statement M
+column-start-spec =
+    tie.close
+    (tie.spec
+    Inv-loop
+    μ-loop
+    loop-holds
+    mul-if1
+    add-if1
+    mul-if1-2
+    element-copy-out-if1
+    returns
+    add-lo
+    loop-less
+    loop-again
+    returns-2)

@@ -1,0 +1,106 @@
+-- The invariant: the rows have their sums over the columns below j. The measure is what is left of the columns.
+use mathlib.Core.Path.{_≡_, refl}
+use Prim.Native.Nat.{_-_, _≤_}
+use native.Mathlib.Omega.{arith}
+use Rattle.stepping.proofs.ColumnSum.{SoFar, may-begin, sums-begun, may-add-next, sums-more, sums-done}
+use Rattle.stepping.proofs.spans.column_sums.Statement.{statement}
+use Rattle.stepping.proofs.spans.column_sums.Tie as tie
+
+abbrev Inv-loop : tie.InvT-loop
+Inv-loop g starts ends d n s₀ j₀ s j = (j ≤ n) × SoFar n j g d s₀ s
+
+abbrev μ-loop : tie.MeasureT-loop
+μ-loop g starts ends d n s₀ j₀ s j = n - j
+
+element-copy-out-widen : tie.Need-element-copy-out-widen Inv-loop μ-loop
+element-copy-out-widen c = omega arith
+
+widen-requires : tie.Need-widen-requires Inv-loop μ-loop
+widen-requires c κs = tt
+
+begin-sums-requires : tie.Need-begin-sums-requires Inv-loop μ-loop
+begin-sums-requires c κs =
+    let p = c .before .before .before .pre in
+    (p .1, may-begin (p .1) (p .3) (p .0) _ (c .before .widen .ensures))
+
+abbrev start : tie.After-begin-sums Inv-loop μ-loop → tie.Start Inv-loop μ-loop
+start c = c .before .before .before .before
+
+-- the sums with column 0
+begun : (c : tie.After-begin-sums Inv-loop μ-loop) → let a = start c .args in SoFar (a .n) 1 (a .g .now) (a .d .now) (a .s .now) (c .begin-sums .last .1 .1 .1 .0)
+begun c =
+    let a = start c in
+    sums-begun (a .pre .1) (a .pre .3) (a .args .s .now) (a .pre .0) (a .pre .2) _ (c .before .before .widen .ensures) (c .begin-sums .ensures)
+
+loop-holds : tie.Need-loop-holds Inv-loop μ-loop
+loop-holds c = let b = begun c in (start c .pre .0, record { size = b .size; rows = b .rows; past = λ i l. refl })
+
+mul-add-column : tie.Need-mul-add-column Inv-loop μ-loop
+mul-add-column c = omega arith
+
+element-copy-out-add-column : tie.Need-element-copy-out-add-column Inv-loop μ-loop
+element-copy-out-add-column c = omega arith
+
+mul-add-column-2 : tie.Need-mul-add-column-2 Inv-loop μ-loop
+mul-add-column-2 c = omega arith
+
+element-copy-out-add-column-2 : tie.Need-element-copy-out-add-column-2 Inv-loop μ-loop
+element-copy-out-add-column-2 c = omega arith
+
+element-copy-out-widen-2 : tie.Need-element-copy-out-widen-2 Inv-loop μ-loop
+element-copy-out-widen-2 c = omega arith
+
+widen-requires-2 : tie.Need-widen-requires-2 Inv-loop μ-loop
+widen-requires-2 c κs = tt
+
+add-column-requires : tie.Need-add-column-requires Inv-loop μ-loop
+add-column-requires c κs =
+    let i = c .before .before .before .before .before in
+    let a = start (i .before .before) in
+    let l = i .before .loop in
+    let m = i .loop-test .taken in
+    may-add-next (a .pre .1) (a .pre .3) m (l .inv .1) (a .pre .4 (l .j) m) (a .pre .5 (l .j) m) _ (c .before .widen2 .ensures)
+
+add-j : tie.Need-add-j Inv-loop μ-loop
+add-j c = omega arith
+
+loop-less : tie.Need-loop-less Inv-loop μ-loop
+loop-less c = omega arith
+
+loop-again : tie.Need-loop-again Inv-loop μ-loop
+loop-again c =
+    let i = c .before .before .before .before .before .before in
+    let a = start (i .before .before) in
+    let l = i .before .loop in
+    let m = i .loop-test .taken in
+    (omega arith, sums-more (a .pre .1) (a .pre .3) m (l .inv .1) (a .pre .4 (l .j) m) (a .pre .5 (l .j) m) _ (c .before .before .widen2 .ensures) (c .add-column .ensures))
+
+returns : tie.Need-returns Inv-loop μ-loop
+returns c =
+    let b = c .before .before in
+    let a = start b in
+    let l = c .before .loop in
+    let e : l .j ≡ a .args .n = omega (arith, l .inv .0, c .loop-test .left) in
+    sums-done (a .pre .1) (a .pre .3) (a .args .s .now) (a .pre .2) (begun b .past) (rw e at (l .inv .1))
+
+pub column-sums-spec : {M : Type 1} → statement M
+column-sums-spec =
+    tie.close
+    (tie.spec
+    Inv-loop
+    μ-loop
+    element-copy-out-widen
+    widen-requires
+    begin-sums-requires
+    loop-holds
+    mul-add-column
+    element-copy-out-add-column
+    mul-add-column-2
+    element-copy-out-add-column-2
+    element-copy-out-widen-2
+    widen-requires-2
+    add-column-requires
+    add-j
+    loop-less
+    loop-again
+    returns)

@@ -1,0 +1,122 @@
+// The same sums in radix 2, where a column is added or taken off with no multiplication. The columns stand one
+// after the other, and so do their negatives; those whose digit is not 0 are listed, and added one after the
+// other over all 16 rows, several rows at once.
+ghost use mathlib.Core.Path.{_≡_};
+ghost use Prim.Native.Nat.{_+_, _*_, _<_, _≤_};
+ghost use lib.IntN.{natAbs};
+ghost use lib.ListN.{length};
+ghost use Rattle.stepping.specs.Steps.{filled};
+ghost use Rattle.stepping.specs.Inner.{FirstZero, Tabulated, Table, Columns, Signs, TableSums, MayTabulate, MayAdd, added, column-place, counted, Listed, MayAddListed, ListedSums};
+use job::ROWS;
+use system::ENTRIES;
+
+// Room for each column twice: its negative in the first half, itself in the second.
+pub const BOTH: usize = 2 * ENTRIES;
+
+// Column j, in the rows below n: its negative in the first half, itself in the second. The other rows keep
+// their zeros.
+fn place_column(g: &[i64; ENTRIES], n: usize, j: usize, t: &mut [i64; BOTH])
+    requires { ⌜ (n ≤ 16) × (j < n) × MayTabulate n (now g) × Tabulated n (now g) (now t) (16 * j) ⌝ }
+    ensures { λ _. ⌜ Tabulated n (now (g .entry)) (now (t .exit)) (16 * (j + 1)) ⌝ }
+{
+    let mut i: usize = 0;
+    while i < n {
+        let v = g[16 * i + j];
+        t[16 * j + i] = 0 - v;
+        t[256 + (16 * j + i)] = v;
+        i += 1;
+    }
+}
+
+// The columns of the matrix and their negatives, each with its 16 rows one after the other.
+pub fn columns(g: &[i64; ENTRIES], n: usize) -> [i64; BOTH]
+    requires { ⌜ (n ≤ 16) × MayTabulate n (now g) ⌝ }
+    ensures { λ t. ⌜ Columns n (now (g .entry)) t ⌝ }
+{
+    let mut t = [0i64; BOTH];
+    let mut j: usize = 0;
+    while j < n {
+        place_column(g, n, j, &mut t);
+        j += 1;
+    }
+    t
+}
+
+// Where column j starts for the digit 1, or its negative for the digit -1. For a digit of 0, which a list has
+// not, it is a place between the two.
+fn column_place(d: i8, j: usize) -> usize
+    requires { ⌜ (natAbs d ≤ 1) × (j < 16) ⌝ }
+    ensures { λ b. ⌜ b ≡ column-place d j ⌝ }
+{
+    128 * (integers::to_unsigned(integers::widen(d) + 1) as usize) + 16 * j
+}
+
+// The columns listed after one more, which is skipped where its digit is 0.
+fn counted(d: i8, count: usize) -> usize
+    requires { ⌜ count < 16 ⌝ }
+    ensures { λ c. ⌜ c ≡ counted d count ⌝ }
+{
+    if d == 0 { count } else { count + 1 }
+}
+
+// Lists the places of the columns below n whose digit is not 0, from the first; how many there are.
+fn list_columns(d: &[i8; ROWS], n: usize, list: &mut [usize; ROWS]) -> usize
+    requires { ⌜ (n ≤ 16) × Signs n (now d) × (length (now list) ≡ 16) ⌝ }
+    ensures { λ c. ⌜ Listed n (now (d .entry)) (now (list .exit)) c ⌝ }
+{
+    let mut count: usize = 0;
+    let mut j: usize = 0;
+    while j < n {
+        list[count] = column_place(d[j], j);
+        count = counted(d[j], count);
+        j += 1;
+    }
+    count
+}
+
+// Adds the 16 rows from a place on to the sums.
+fn add_rows(t: &[i64; BOTH], place: usize, s: &mut [i64; ROWS])
+    requires { ⌜ MayAdd (now t) place (now s) ⌝ }
+    ensures { λ _. ⌜ now (s .exit) ≡ filled (added (now (t .entry)) place (now (s .entry))) (now (s .entry)) 16 ⌝ }
+{
+    let mut i: usize = 0;
+    while i < 16 {
+        s[i] = s[i] + t[place + i];
+        i += 1;
+    }
+}
+
+// The sums of the columns listed, one after the other.
+fn listed_sums<'a>(t: &'a [i64; BOTH], list: &'a [usize; ROWS], count: usize) -> [i64; ROWS]
+    requires { ⌜ MayAddListed (now t) (now list) count ⌝ }
+    ensures { λ s. ⌜ ListedSums (now (t .entry)) (now (list .entry)) count s ⌝ }
+{
+    let mut s = [0i64; ROWS];
+    let mut c: usize = 0;
+    while c < count {
+        add_rows(t, list[c], &mut s);
+        c += 1;
+    }
+    s
+}
+
+// The sum of each row with the digits d, one column after the other.
+pub fn column_sums<'a>(t: &'a [i64; BOTH], d: &'a [i8; ROWS], n: usize) -> [i64; ROWS]
+    requires { ⌜ (n ≤ 16) × Table n (now t) × Signs n (now d) ⌝ }
+    ensures { λ s. ⌜ TableSums n (now (t .entry)) (now (d .entry)) s ⌝ }
+{
+    let mut list = [0usize; ROWS];
+    let count = list_columns(d, n, &mut list);
+    listed_sums(t, &list, count)
+}
+
+// The same with the digits d of step k, with which steps begin. Before the first step every sum is 0.
+pub fn first_sums<'a>(t: &'a [i64; BOTH], d: &'a [i8; ROWS], n: usize, k: usize) -> [i64; ROWS]
+    requires { ⌜ (n ≤ 16) × Table n (now t) × Signs n (now d) × FirstZero k (now d) ⌝ }
+    ensures { λ s. ⌜ TableSums n (now (t .entry)) (now (d .entry)) s ⌝ }
+{
+    if k == 0 {
+        return [0i64; ROWS];
+    }
+    column_sums(t, d, n)
+}

@@ -1,0 +1,122 @@
+// The rows' sums with the digits of the step before, one column after the other, each multiplied by its digit.
+// Of a column only the rows from its first entry to its last are looked at: a curve's columns have one entry,
+// but for column 0. A column whose digit is 0 is skipped: its rows keep their sums.
+ghost use mathlib.Core.Path.{_≡_};
+ghost use Prim.Native.Nat.{_<_, _≤_};
+ghost use lib.IntN.{pos};
+ghost use lib.ListN.{length, replicate};
+ghost use Rattle.stepping.specs.Steps.{filled};
+ghost use Rattle.stepping.specs.Inner.{row-dot, MaySumRows, FirstZero, Start, Starts, End, Ends, MayBegin, first-product};
+use job::ROWS;
+use system::ENTRIES;
+
+// The first row below n in which column j has an entry other than 0, or n where there is none.
+fn column_start(g: &[i64; ENTRIES], j: usize, n: usize) -> usize
+    requires { ⌜ (j < 16) × (n ≤ 16) ⌝ }
+    ensures { λ lo. ⌜ Start n (now (g .entry)) j lo ⌝ }
+{
+    let mut lo: usize = 0;
+    while lo < n {
+        if g[16 * lo + j] != 0 {
+            return lo;
+        }
+        lo += 1;
+    }
+    lo
+}
+
+// The row after the last one below n in which column j has an entry other than 0, or 0 where there is none.
+fn column_end(g: &[i64; ENTRIES], j: usize, n: usize) -> usize
+    requires { ⌜ (j < 16) × (n ≤ 16) ⌝ }
+    ensures { λ hi. ⌜ End n (now (g .entry)) j hi ⌝ }
+{
+    let mut hi = n;
+    while 0 < hi {
+        if g[16 * (hi - 1) + j] != 0 {
+            return hi;
+        }
+        hi -= 1;
+    }
+    hi
+}
+
+// For each column the first row in which it has an entry other than 0.
+pub fn column_starts(g: &[i64; ENTRIES], n: usize) -> [usize; ROWS]
+    requires { ⌜ n ≤ 16 ⌝ }
+    ensures { λ lo. ⌜ Starts n (now (g .entry)) lo ⌝ }
+{
+    let mut lo = [0usize; ROWS];
+    let mut j: usize = 0;
+    while j < n {
+        lo[j] = column_start(g, j, n);
+        j += 1;
+    }
+    lo
+}
+
+// For each column the row after the last one in which it has an entry other than 0.
+pub fn column_ends(g: &[i64; ENTRIES], n: usize) -> [usize; ROWS]
+    requires { ⌜ n ≤ 16 ⌝ }
+    ensures { λ hi. ⌜ Ends n (now (g .entry)) hi ⌝ }
+{
+    let mut hi = [0usize; ROWS];
+    let mut j: usize = 0;
+    while j < n {
+        hi[j] = column_end(g, j, n);
+        j += 1;
+    }
+    hi
+}
+
+// Begins the sums of the rows below n with column 0, whose digit is d; the other words of s stay.
+fn begin_sums(g: &[i64; ENTRIES], d: i64, n: usize, s: &mut [i64; ROWS])
+    requires { ⌜ (n ≤ 16) × MayBegin n (now g) d ⌝ }
+    ensures { λ _. ⌜ now (s .exit) ≡ filled (first-product (now (g .entry)) d) (now (s .entry)) n ⌝ }
+{
+    let mut i: usize = 0;
+    while i < n {
+        s[i] = column::sum_after(0, g[16 * i], d);
+        i += 1;
+    }
+}
+
+// The sum of each row below n with the digits d, in s, one column after the other; the other words of s stay.
+pub fn column_sums<'a>(
+    g: &'a [i64; ENTRIES],
+    starts: &'a [usize; ROWS],
+    ends: &'a [usize; ROWS],
+    d: &'a [i8; ROWS],
+    n: usize,
+    s: &mut [i64; ROWS],
+)
+    requires { ⌜ (1 ≤ n) × (n ≤ 16) × (length (now s) ≡ 16) × MaySumRows n (now g) (now d) × Starts n (now g) (now starts) × Ends n (now g) (now ends) ⌝ }
+    ensures { λ _. ⌜ now (s .exit) ≡ filled (row-dot n (now (g .entry)) (now (d .entry))) (now (s .entry)) n ⌝ }
+{
+    begin_sums(g, integers::widen(d[0]), n, s);
+    let mut j: usize = 1;
+    while j < n {
+        column::add_column(g, j, starts[j], ends[j], integers::widen(d[j]), s);
+        j += 1;
+    }
+}
+
+// The sum of each row below n with the digits d of step k, with which steps begin, and zeros past row n.
+// Before the first step every digit is 0, and so is every sum.
+pub fn first_sums<'a>(
+    g: &'a [i64; ENTRIES],
+    starts: &'a [usize; ROWS],
+    ends: &'a [usize; ROWS],
+    d: &'a [i8; ROWS],
+    n: usize,
+    k: usize,
+) -> [i64; ROWS]
+    requires { ⌜ (1 ≤ n) × (n ≤ 16) × MaySumRows n (now g) (now d) × Starts n (now g) (now starts) × Ends n (now g) (now ends) × FirstZero k (now d) ⌝ }
+    ensures { λ s. ⌜ s ≡ filled (row-dot n (now (g .entry)) (now (d .entry))) (replicate 16 (pos 0)) n ⌝ }
+{
+    let mut s = [0i64; ROWS];
+    if k == 0 {
+        return s;
+    }
+    column_sums(g, starts, ends, d, n, &mut s);
+    s
+}
