@@ -5,8 +5,8 @@ use mathlib.Core.List.{List, [], _∷_, _++_}
 use Prim.Native.Nat.{ℕ, _+_, _<_, _≤_}
 use native.Mathlib.Omega.{arith}
 use borrow.Author.Tests.{lt-ltb, le-ltb}
-use lib.IntN.{ℤ}
-use lib.ListN.{length, drop}
+use lib.IntN.{ℤ, pos}
+use lib.ListN.{length, drop, replicate}
 use Rattle.integers.specs.Flat.{at, list-from}
 use Rattle.job.specs.Header.{radix}
 use Rattle.job.proofs.Limits.{last-small}
@@ -109,6 +109,14 @@ module _ (frame list : List ℕ) (given : List ℤ) (l : Loaded) (e : l ≡ load
     pub job-limits : Limits (job .header) × ScaleLimits (job .header) (job .scale)
     job-limits = (job-sound .limits, job-sound .scaled)
 
+    -- put together from its header and its arrays, with no digit but 0
+    no-digits : replicate 960 (pos 0) ≡ job .digits
+    unfolding fresh
+    no-digits = rw job-is refl
+
+    whole : state-of true (job .header) (job .scale) 0 (job .g) (job .z) (replicate 960 (pos 0)) ≡ job
+    whole = rw no-digits (fresh-whole job (job-start .0) (job-start .1))
+
     passes : (j : ℕ) → j ≤ state-last job → first-refusal (state-checks (steps job j)) ≡ 0
     passes j m = rw job-is (loaded-passes frame ok j (rw job-is at m))
 
@@ -133,19 +141,17 @@ module _ (frame list : List ℕ) (given : List ℤ) (l : Loaded) (e : l ≡ load
       unfolding fresh
       room = rw job-is refl
 
-      pub steppable : MayStep (state-of true (job .header) (job .scale) 0 (job .g) (job .z) (job .digits)) made
-      steppable =
-          rw (fresh-whole job (job-start .0) (job-start .1))
-          (record { passes = job-sound; room = room; left = omega (arith, made-most, job-start .1) })
+      pub steppable : MayStep (state-of true (job .header) (job .scale) 0 (job .g) (job .z) (replicate 960 (pos 0))) made
+      steppable = rw whole (record { passes = job-sound; room = room; left = omega (arith, made-most, job-start .1) })
 
       with-made : (c : ℕ) (final : List ℤ) → Promise frame list given (record { refusal = c; row = 0; scale = done .scale; made = done .k }) final
           → Promise frame list given (record { refusal = c; row = 0; scale = job .scale; made = made }) final
       with-made c final p = rw (steps-scale job made, k-is) at p
 
       -- what `make_steps` leaves, in `ds`, can be read
-      module _ (ds : List ℤ) (ed : ds ≡ steps (state-of true (job .header) (job .scale) 0 (job .g) (job .z) (job .digits)) made .digits) where
+      module _ (ds : List ℤ) (ed : ds ≡ steps (state-of true (job .header) (job .scale) 0 (job .g) (job .z) (replicate 960 (pos 0))) made .digits) where
         digits-are : ds ≡ done .digits
-        digits-are = rw (fresh-whole job (job-start .0) (job-start .1)) at ed
+        digits-are = rw whole at ed
 
         pub rows-readable : MayReadRows (job .header) made ds
         rows-readable =

@@ -12,6 +12,8 @@ mod calls; // calls.rt: a list of calls, made one by one
 
 pub use calls::perform;
 
+use state::DIGITS;
+
 // A refusal number, 0 where there is none, the row given with it, the scale s, and the steps made, k. A
 // reading stands for itself divided by r^k and multiplied by r^s.
 pub struct Evaluated {
@@ -63,7 +65,7 @@ pub fn evaluate(frame: &[u8], budgets: &[u64], out: &mut [i64]) -> Evaluated
         };
     }
     let mut z = l.state.z;
-    let mut digits = l.state.digits;
+    let mut digits = [0i8; DIGITS]; // as those of a fresh job are
     stepping::make_steps(h, scale, 0, made, &l.state.g, &mut z, &mut digits);
     evaluator::put_readings(h, made, &digits, out);
     Evaluated {

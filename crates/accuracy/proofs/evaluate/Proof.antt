@@ -48,7 +48,7 @@ returns-2 c =
 
 make-steps-requires : tie.Need-make-steps-requires
 make-steps-requires c κs =
-    let m = c .before .before .before .before .before .before .before .before in
+    let m = c .before .before .before .before .before .before .before in
     let e = m .before .before .before in
     let l = e .before in
     let a = l .before .before .before .args in
@@ -56,23 +56,23 @@ make-steps-requires c κs =
 
 put-readings-requires : tie.Need-put-readings-requires
 put-readings-requires c κs =
-    let m = c .before .before .before .before .before .before .before .before .before .before .before in
+    let m = c .before .before .before .before .before .before .before .before .before .before in
     let e = m .before .before .before in
     let l = e .before in
     let a = l .before .before .before .args in
-    (rows-readable (a .frame .now) (a .budgets .now) (a .out .now) (l .load .result) (l .load .ensures) (e .if1 .left) (m .steps-allowed .result) (allowed m) _ (c .before .before .make-steps .ensures .1), c .before .before .before .before .before .before .before .before .before .if2 .left)
+    (rows-readable (a .frame .now) (a .budgets .now) (a .out .now) (l .load .result) (l .load .ensures) (e .if1 .left) (m .steps-allowed .result) (allowed m) _ (c .before .before .make-steps .ensures .1), c .before .before .before .before .before .before .before .before .if2 .left)
 
 same-length : tie.Need-same-length
 same-length c = search needs
 
 returns-3 : tie.Need-returns-3
 returns-3 c =
-    let m = c .before .before .before .before .before .before .before .before .before .before .before .before .before in
+    let m = c .before .before .before .before .before .before .before .before .before .before .before .before in
     let e = m .before .before .before in
     let l = e .before in
     let a = l .before .before .before .args in
     let q = c .before in
-    promise-done (a .frame .now) (a .budgets .now) (a .out .now) (l .load .result) (l .load .ensures) (e .if1 .left) (m .steps-allowed .result) (allowed m) _ (q .before .before .before .make-steps .ensures .1) _ (c .before .before .before .before .before .before .before .before .before .before .before .if2 .left) (q .put-readings .ensures)
+    promise-done (a .frame .now) (a .budgets .now) (a .out .now) (l .load .result) (l .load .ensures) (e .if1 .left) (m .steps-allowed .result) (allowed m) _ (q .before .before .before .make-steps .ensures .1) _ (c .before .before .before .before .before .before .before .before .before .before .if2 .left) (q .put-readings .ensures)
 
 pub evaluate-spec : {M : Type 1} → statement M
 evaluate-spec =

@@ -1,0 +1,8 @@
+mod Columns
+mod Stored
+mod Put
+mod Calls
+mod Places
+pub mod Theorems
+pub mod NextStep
+mod Example

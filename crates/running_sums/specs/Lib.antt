@@ -1,0 +1,3 @@
+pub mod RunningSums
+pub mod Theorems
+pub mod Inner
