@@ -15,6 +15,7 @@ const ARCHIVES: [(&str, &[&str]); 2] = [
         &[
             "em_check_frame",
             "em_evaluate",
+            "em_running_sums",
             "em_write_frame",
             "em_write_trace",
             "em_read_trace",

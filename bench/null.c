@@ -10,7 +10,7 @@ int main(void)
     const int64_t numbers[] = {3, 3, 8};
     int64_t words[EM_TRACE_WORDS];
     uint8_t bytes[EM_FRAME_BYTES];
-    uint64_t answers[9];
+    uint64_t answers[11];
     size_t i;
 
     answers[0] = em_check_frame(NULL, 0);
@@ -22,7 +22,9 @@ int main(void)
     answers[6] = em_write_trace(frame, sizeof frame, 4, NULL, 0);
     answers[7] = em_read_trace(NULL, 0, words, EM_TRACE_WORDS);
     answers[8] = em_read_trace(trace, sizeof trace, NULL, 0);
-    for (i = 0; i < 9; i++)
-        printf("%u%c", EM_REFUSAL(answers[i]), i < 8 ? ' ' : '\n');
+    answers[9] = em_running_sums(NULL, 0, 1, words, EM_SUMS);
+    answers[10] = em_running_sums(frame, sizeof frame, 1, NULL, 0);
+    for (i = 0; i < 11; i++)
+        printf("%u%c", EM_REFUSAL(answers[i]), i < 10 ? ' ' : '\n');
     return 0;
 }

@@ -5,7 +5,7 @@ use std::path::Path;
 
 use crate::inputs::{pack_frame, pack_trace};
 use crate::plain::Fields;
-use crate::sides::Side;
+use crate::sides::{Answer, Side};
 
 /// The frame of case A, which has a heavy row.
 const A: [u8; 6] = [0x01, 0x10, 0x44, 0x10, 0x32, 0x00];
@@ -44,10 +44,8 @@ pub fn frame_text<S: Side>(frame: &[u8]) -> String {
     let mut trace = [0; 604];
     let mut words = [0; 967];
     let answer = S::evaluate(frame, u64::MAX, &mut readings);
-    match answer.refusal() {
-        0 => {}
-        8 => return format!("refused 8 {}\n", answer.row()),
-        number => return format!("refused {number}\n"),
+    if answer.refusal() != 0 {
+        return refused_text(answer);
     }
     let bytes = S::write_trace(frame, u64::MAX, &mut trace).count();
     let count = S::read_trace(&trace[..bytes], &mut words).count();
@@ -59,6 +57,36 @@ pub fn frame_text<S: Side>(frame: &[u8]) -> String {
     push_steps(&mut text, n, &words[7..count]);
     text.push_str("= ");
     push_line(&mut text, &readings[..n]);
+    text
+}
+
+/// The line of a refused frame.
+fn refused_text(answer: Answer) -> String {
+    match answer.refusal() {
+        8 => format!("refused 8 {}\n", answer.row()),
+        number => format!("refused {number}\n"),
+    }
+}
+
+/// The running sums of a frame's job after 0, 1 and 2 steps and after all, by the calls of one side: a line for
+/// each, with the steps made and then the words.
+pub fn sums_text<S: Side>(frame: &[u8]) -> String {
+    let all = S::evaluate(frame, u64::MAX, &mut [0; 16]);
+    if all.refusal() != 0 {
+        return refused_text(all);
+    }
+    let mut text = String::new();
+    let mut words = [0; 272];
+    let made = [0, 1, 2, all.count()];
+    for (at, &steps) in made.iter().enumerate() {
+        if steps > all.count() || made[..at].contains(&steps) {
+            continue;
+        }
+        let count = S::running_sums(frame, steps as u64, &mut words).count();
+        let mut line = vec![steps as i64];
+        line.extend(&words[..count]);
+        push_line(&mut text, &line);
+    }
     text
 }
 
@@ -203,6 +231,32 @@ pub fn run<S: Side>() -> Result<usize, String> {
     let heavy = frame(0, 2, 1, 2, 59, &[5, 9, 8]);
     case("8 before 15", refused(&heavy) == (8, 1))?;
 
+    // The words of A after 1 step, with the digits 0 and 1: column 2 and its sums, 3 and 0.
+    let sums = |frame: &[u8], budget, room: usize| {
+        let mut words = [7; 7];
+        let answer = S::running_sums(frame, budget, &mut words[..room]);
+        (answer.refusal(), answer.count(), words)
+    };
+    case("sums, no step", sums(&A_3, 0, 0) == (0, 0, [7; 7]))?;
+    case("sums, no room", sums(&A_3, 1, 2) == (23, 0, [7; 7]))?;
+    case(
+        "sums, column 2",
+        sums(&A_3, 1, 4) == (0, 3, [2, 3, 0, 7, 7, 7, 7]),
+    )?;
+    case(
+        "sums, column 1",
+        sums(&A_3, 2, 3) == (0, 3, [1, 0, 0, 7, 7, 7, 7]),
+    )?;
+    // Those of E with x 3, whose scale is 1, in the frame's unit: columns 1 and 2.
+    case(
+        "sums, both",
+        sums(&curve(3, 9), 1, 7) == (0, 6, [1, 0, 0, 2, 3, 0, 7]),
+    )?;
+    case(
+        "sums, heavy row",
+        sums(&curve(5, 9), 1, 7) == (8, 0, [7; 7]),
+    )?;
+
     // Traces of radix 2 and order 1, all digits 0.
     let traced = |m, k| {
         let trace = pack_trace(&fields(0, 2, 1, 1, m), k, &vec![0; k]);
@@ -216,41 +270,47 @@ pub fn run<S: Side>() -> Result<usize, String> {
     Ok(done)
 }
 
-/// Runs one side over a folder of vectors: each `.bin` must give exactly its `.txt`.
+/// Runs one side over a folder of vectors: each `.bin` must give exactly its `.txt`, and where there is a
+/// `columns.txt`, the running sums of the frames must be those.
 pub fn run_vectors<S: Side>(folder: &Path) -> Result<(), String> {
-    run_file(S::NAME, folder, "frames", frame_text::<S>)?;
-    run_file(S::NAME, folder, "traces", trace_text::<S>)
+    run_file(S::NAME, folder, "frames", "frames", frame_text::<S>)?;
+    run_file(S::NAME, folder, "traces", "traces", trace_text::<S>)?;
+    if folder.join("columns.txt").exists() {
+        run_file(S::NAME, folder, "frames", "columns", sums_text::<S>)?;
+    }
+    Ok(())
 }
 
 fn run_file(
     side: &str,
     folder: &Path,
+    input: &str,
     name: &str,
     text: impl Fn(&[u8]) -> String,
 ) -> Result<(), String> {
-    let read = |ending: &str| {
+    let read = |name: &str, ending: &str| {
         let path = folder.join(name).with_extension(ending);
         fs::read(&path).map_err(|error| format!("{}: {error}", path.display()))
     };
-    let input = read("bin")?;
-    let expected = read("txt")?;
+    let bytes = read(input, "bin")?;
+    let expected = read(name, "txt")?;
     let mut items = 0;
-    let mut input = &input[..];
+    let mut rest = &bytes[..];
     let mut left = &expected[..];
-    while let [high, low, after @ ..] = input {
+    while let [high, low, after @ ..] = rest {
         let length = usize::from(*high) << 8 | usize::from(*low);
         if length > after.len() {
-            return Err(format!("{name}.bin ends within an item"));
+            return Err(format!("{input}.bin ends within an item"));
         }
         let item;
-        (item, input) = after.split_at(length);
+        (item, rest) = after.split_at(length);
         items += 1;
         left = left
             .strip_prefix(text(item).as_bytes())
             .ok_or_else(|| format!("{side}: {name}, item {items} differs: {item:02X?}"))?;
     }
-    if !input.is_empty() || !left.is_empty() {
-        return Err(format!("{side}: {name}.bin ends too early"));
+    if !rest.is_empty() || !left.is_empty() {
+        return Err(format!("{side}: {input}.bin ends before {name}.txt"));
     }
     println!(
         "{side}: {items} {name}, {} bytes, all equal",

@@ -169,6 +169,23 @@ fn evaluate(
     .map_err(|what| format!("em_evaluate, budget {budget}, {what}"))
 }
 
+fn running_sums(
+    frame: &[u8],
+    budget: u64,
+    room: usize,
+    random: &mut Random,
+) -> Result<(Answer, Vec<i64>), String> {
+    both(
+        room,
+        random,
+        |word| word as i64,
+        |lent| Plain::running_sums(frame, budget, lent),
+        |lent| Library::running_sums(frame, budget, lent),
+        Answer::count,
+    )
+    .map_err(|what| format!("em_running_sums, budget {budget}, {what}"))
+}
+
 fn write_frame(
     fields: &Fields,
     numbers: &[i64],
@@ -283,6 +300,11 @@ fn compare_frame(frame: &[u8], random: &mut Random) -> Result<Answer, String> {
     let (written, _) = write_trace(frame, budget, AMPLE, random)?;
     let room = room_near(written.count(), random);
     write_trace(frame, budget, room, random)?;
+
+    let budget = random_budget(random);
+    let (written, _) = running_sums(frame, budget, AMPLE, random)?;
+    let room = room_near(written.count(), random);
+    running_sums(frame, budget, room, random)?;
     Ok(answer)
 }
 

@@ -7,7 +7,7 @@ use std::process::Command;
 /// Each program below the repository's root, and what it has to print.
 const PROGRAMS: [(&str, &str); 2] = [
     ("crates/emethod_c/example.c", "0.65625 0.5\n"),
-    ("bench/null.c", "1 1 23 12 23 1 23 1 23\n"),
+    ("bench/null.c", "1 1 23 12 23 1 23 1 23 1 23\n"),
 ];
 
 /// The compilers, with the words before the program's name and after it.

@@ -51,6 +51,7 @@ pub trait Side {
     fn check_frame(frame: &[u8]) -> Answer;
     fn evaluate(frame: &[u8], budget: u64, readings: &mut [i64]) -> Answer;
     fn write_frame(fields: &Fields, numbers: &[i64], out: &mut [u8]) -> Answer;
+    fn running_sums(frame: &[u8], budget: u64, words: &mut [i64]) -> Answer;
     fn write_trace(frame: &[u8], budget: u64, out: &mut [u8]) -> Answer;
     fn read_trace(trace: &[u8], words: &mut [i64]) -> Answer;
     fn probe_load(frame: &[u8], row: usize, column: usize) -> i64;
@@ -76,6 +77,11 @@ impl Side for Plain {
     #[inline(never)]
     fn write_frame(fields: &Fields, numbers: &[i64], out: &mut [u8]) -> Answer {
         write_frame(fields, numbers, out).into()
+    }
+
+    #[inline(never)]
+    fn running_sums(frame: &[u8], budget: u64, words: &mut [i64]) -> Answer {
+        calls::running_sums(frame, budget, words).into()
     }
 
     #[inline(never)]
@@ -133,6 +139,14 @@ macro_rules! linked {
                     numbers: *const i64,
                     length: usize,
                     out: *mut u8,
+                    room: usize,
+                ) -> u64;
+                #[link_name = concat!($prefix, "em_running_sums")]
+                fn em_running_sums(
+                    frame: *const u8,
+                    length: usize,
+                    budget: u64,
+                    words: *mut i64,
                     room: usize,
                 ) -> u64;
                 #[link_name = concat!($prefix, "em_write_trace")]
@@ -204,6 +218,18 @@ macro_rules! linked {
                     })
                 }
 
+                fn running_sums(frame: &[u8], budget: u64, words: &mut [i64]) -> Answer {
+                    Answer(unsafe {
+                        em_running_sums(
+                            frame.as_ptr(),
+                            frame.len(),
+                            budget,
+                            words.as_mut_ptr(),
+                            words.len(),
+                        )
+                    })
+                }
+
                 fn write_trace(frame: &[u8], budget: u64, out: &mut [u8]) -> Answer {
                     Answer(unsafe {
                         em_write_trace(
@@ -263,6 +289,10 @@ impl Side for Library {
 
     fn write_frame(fields: &Fields, numbers: &[i64], out: &mut [u8]) -> Answer {
         Plain::write_frame(fields, numbers, out)
+    }
+
+    fn running_sums(frame: &[u8], budget: u64, words: &mut [i64]) -> Answer {
+        Plain::running_sums(frame, budget, words)
     }
 
     fn write_trace(frame: &[u8], budget: u64, out: &mut [u8]) -> Answer {

@@ -42,6 +42,7 @@ extern "C" {
 #define EM_FRAME_BYTES 1431 /* the longest frame */
 #define EM_TRACE_BYTES 604  /* the longest trace */
 #define EM_TRACE_WORDS 967  /* the words of the longest trace: 7, and 60 steps of 16 digits */
+#define EM_SUMS 272         /* the words of the running sums: 17 for each of 16 columns */
 
 enum em_kind {
     EM_POLYNOMIAL = 0,
@@ -90,6 +91,14 @@ uint64_t em_check_frame(const uint8_t *frame, size_t length);
  * than r^-m. Row 1 of a curve is the curve's value at x. Refused by 1 to 8, 15, 23. A budget of 0 is not
  * refused by 22: k is 0, and so is each reading. */
 uint64_t em_evaluate(const uint8_t *frame, size_t length, uint64_t budget, int64_t *readings, size_t room);
+
+/* Loads a frame, makes as many of its m + 1 + s steps as the budget allows, and writes in which order the next
+ * step adds: for each column whose digit of the last step made is not 0, from the first, its number, from 1,
+ * and then, row by row, the sum over the columns up to it of the entry of I - A times that digit, in units of
+ * 2^-f whatever s is. The last n words, or n zeros where there are no words, times r^s / 2^f are what the next
+ * step adds to what is left in each row. count: the words, n + 1 for each such column; 0 after 0 steps.
+ * Refused by 1 to 8, 15, 23. A budget of 0 is not refused by 22. */
+uint64_t em_running_sums(const uint8_t *frame, size_t length, uint64_t budget, int64_t *words, size_t room);
 
 /* Writes a frame. count: its bytes.
  *

@@ -34,6 +34,12 @@ pub fn trace_frame(frame: &[u8], budget: u64, out: &mut [u8]) -> Result<usize, R
     write_trace(&state.record()?, out)
 }
 
+/// Loads a frame, makes steps and gives the running sums. Counts the words.
+pub fn running_sums(frame: &[u8], budget: u64, words: &mut [i64]) -> Result<usize, Refusal> {
+    let (state, _) = load_and_advance(frame, budget)?;
+    state.running_sums(words)
+}
+
 /// A budget of 0 makes no step; here that is no refusal.
 fn load_and_advance(frame: &[u8], budget: u64) -> Result<(State, usize), Refusal> {
     let mut state = State::load(frame)?;

@@ -1,4 +1,4 @@
-//! The state: load, advance, readings.
+//! The state: load, advance, readings, running sums.
 
 use std::mem::swap;
 
@@ -72,6 +72,26 @@ impl State {
             }
         }
         Ok(job.scale)
+    }
+
+    /// Puts into the list, for each column whose last digit is not 0, its number from 1 and each row's sum over
+    /// the columns up to it, of G's entry times the last digit. Counts the words. Refused by 20, 24, 23.
+    pub fn running_sums(&self, list: &mut [i64]) -> Result<usize, Refusal> {
+        let job = self.job()?;
+        let n = job.fields.n;
+        let last = job.digits.chunks_exact(n).last().unwrap_or(&[]);
+        let mut sums = vec![0; n];
+        let mut words = Vec::new();
+        for (column, &digit) in last.iter().enumerate().filter(|(_, &digit)| digit != 0) {
+            for (sum, row) in sums.iter_mut().zip(job.g.chunks_exact(n)) {
+                *sum += row[column] * i64::from(digit);
+            }
+            words.push(column as i64 + 1);
+            words.extend_from_slice(&sums);
+        }
+        let list = list.get_mut(..words.len()).ok_or(Refusal::NoRoom)?;
+        list.copy_from_slice(&words);
+        Ok(words.len())
     }
 
     /// What a trace tells of the state. Refused by 20, 24.
@@ -196,6 +216,7 @@ mod tests {
         let mut idle = State::default();
         assert_eq!(idle.advance(0), Err(Refusal::Idle));
         assert_eq!(idle.readings(&mut []), Err(Refusal::Idle));
+        assert_eq!(idle.running_sums(&mut []), Err(Refusal::Idle));
         assert_eq!(idle.record(), Err(Refusal::Idle));
     }
 
@@ -214,6 +235,30 @@ mod tests {
         assert_eq!(list, [0, 0, 7]);
         assert_eq!(state.readings(&mut list), Ok(0));
         assert_eq!(list, [9, 16, 7]);
+    }
+
+    #[test]
+    fn sums_of_a_state() {
+        let mut state = State::load(&A).unwrap();
+        let mut list = [7; 4];
+        // After 0 steps nothing is written, whatever the room.
+        assert_eq!(state.running_sums(&mut []), Ok(0));
+        // The digits are 0 and 1: column 2, with 3 in row 1.
+        assert_eq!(state.advance(1), Ok(1));
+        assert_eq!(state.running_sums(&mut list[..2]), Err(Refusal::NoRoom));
+        assert_eq!(list, [7, 7, 7, 7]);
+        assert_eq!(state.running_sums(&mut list), Ok(3));
+        assert_eq!(list, [2, 3, 0, 7]);
+        // They are 1 and 0: column 1, which has no entry.
+        assert_eq!(state.advance(1), Ok(1));
+        assert_eq!(state.running_sums(&mut list), Ok(3));
+        assert_eq!(list, [1, 0, 0, 7]);
+        // At scale 1 the unit is the frame's too. The digits are 1 and 1.
+        let mut state = State::load(&E).unwrap();
+        let mut list = [7; 7];
+        assert_eq!(state.advance(1), Ok(1));
+        assert_eq!(state.running_sums(&mut list), Ok(6));
+        assert_eq!(list, [1, 0, 0, 2, 3, 0, 7]);
     }
 
     #[test]
@@ -280,6 +325,7 @@ mod tests {
             let before = state.clone();
             assert_eq!(state.advance(0), Err(Refusal::BadState), "break {at}");
             assert_eq!(state.readings(&mut []), Err(Refusal::BadState));
+            assert_eq!(state.running_sums(&mut []), Err(Refusal::BadState));
             assert_eq!(state.record(), Err(Refusal::BadState));
             assert_eq!(state, before);
         }

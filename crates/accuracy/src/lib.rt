@@ -11,7 +11,6 @@ ghost use Rattle.accuracy.specs.Promise.{Promise};
 mod calls; // calls.rt: a list of calls, made one by one
 
 pub use calls::perform;
-
 use state::DIGITS;
 
 // A refusal number, 0 where there is none, the row given with it, the scale s, and the steps made, k. A

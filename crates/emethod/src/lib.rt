@@ -11,6 +11,7 @@
 // load         makes the state of a job from a frame
 // advance      makes as many steps as a budget allows and as are left
 // readings     puts the reading of each row into a lent list
+// running_sums puts into a lent list in which order the next step adds, column by column
 // idle         gives the idle state
 // read_frame   gives the fields of a frame and puts its numbers into a lent list
 // write_frame  puts the frame of a header and of numbers into a lent buffer
@@ -35,6 +36,8 @@ pub use frame::write_frame;
 pub use job::Header;
 pub use printout::Printed;
 pub use printout::print_frame;
+pub use running_sums::SumsWritten;
+pub use running_sums::running_sums;
 pub use state::State;
 pub use state::idle;
 pub use trace::Record;

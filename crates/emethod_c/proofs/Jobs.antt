@@ -4,6 +4,7 @@ use mathlib.Core.List.{List}
 use Prim.Native.Nat.{ℕ, _<_, _≤_}
 use native.Mathlib.Omega.{arith}
 use borrow.Author.Tests.{ne-eqb, eq-eqb}
+use lib.IntN.{ℤ}
 use lib.ListN.{length}
 use Rattle.job.specs.Header.{count}
 use Rattle.frame.specs.Frame.{frame-refusal}
@@ -14,10 +15,12 @@ use Rattle.evaluator.specs.Evaluator.{loaded, advanced}
 use Rattle.evaluator.specs.declared.Loaded.{Loaded}
 use Rattle.evaluator.specs.declared.Advanced.{Advanced}
 use Rattle.evaluator.proofs.Theorems.{accepted-load}
+use Rattle.running_sums.specs.RunningSums.{sums-written, sums-list}
+use Rattle.running_sums.specs.declared.SumsWritten.{SumsWritten}
 use Rattle.trace.specs.Trace.{record-answer, trace-writer-answer, trace-writer-buffer}
 use Rattle.trace.specs.declared.Recorded.{Recorded}
 use Rattle.trace.specs.declared.TraceWritten.{TraceWritten}
-use Rattle.emethod_c.specs.Foreign.{answer-of, scaled-answer-of, check-answer, job-record, job-trace-answer, job-trace-buffer}
+use Rattle.emethod_c.specs.Foreign.{answer-of, scaled-answer-of, check-answer, job-state, job-sums-answer, job-sums-list, job-record, job-trace-answer, job-trace-buffer}
 
 module _ (frame : List ℕ) (l : Loaded) (e : l ≡ loaded frame) where
   -- of a refused frame
@@ -33,6 +36,11 @@ module _ (frame : List ℕ) (l : Loaded) (e : l ≡ loaded frame) where
         → (r ≡ job-trace-answer frame budget (length out)) × (out ≡ job-trace-buffer frame budget out)
     unfolding job-trace-answer job-trace-buffer
     job-trace-refused budget r out f = let q = ne-eqb (loaded frame .refusal) 0 some in (f ∙ rw (e, q), rw q)
+
+    pub job-sums-refused : (budget r : ℕ) (words : List ℤ) → r ≡ answer-of (l .refusal) (l .row) 0
+        → (r ≡ job-sums-answer frame budget (length words)) × (words ≡ job-sums-list frame budget words)
+    unfolding job-sums-answer job-sums-list
+    job-sums-refused budget r words f = let q = ne-eqb (loaded frame .refusal) 0 some in (f ∙ rw (e, q), rw q)
 
   -- of an accepted one
   module _ (h : l .refusal ≤ 0) where
@@ -54,15 +62,25 @@ module _ (frame : List ℕ) (l : Loaded) (e : l ≡ loaded frame) where
         let s : l .state .scale ≡ loaded frame .state .scale = ap (λ (x : Loaded). x .state .scale) e in
         g ∙ rw (f, header-is, s, z)
 
-    pub job-trace-accepted : (budget : ℕ) (a : Advanced) (c : Recorded) (w : TraceWritten) (r : ℕ) (out left : List ℕ)
-        → a ≡ advanced (l .state) budget → c ≡ record-answer (a .state) → w ≡ trace-writer-answer (c .trace) (length out) → left ≡ trace-writer-buffer (c .trace) out
-        → r ≡ answer-of (w .refusal) 0 (w .length)
-        → (r ≡ job-trace-answer frame budget (length out)) × (left ≡ job-trace-buffer frame budget out)
-    unfolding job-trace-answer job-trace-buffer job-record
-    job-trace-accepted budget a c w r out left ea ec ew eb er =
-        let q = eq-eqb (loaded frame .refusal) 0 none in
-        let t : c .trace ≡ record-answer (advanced (loaded frame .state) budget .state) .trace =
-        ap (λ (x : Recorded). x .trace) ec ∙ ap (λ (x : Advanced). record-answer (x .state) .trace) ea
-        ∙ ap (λ (x : Loaded). record-answer (advanced (x .state) budget .state) .trace) e
-        in
-        (er ∙ rw (ew, t, q), eb ∙ rw (t, q))
+    -- `a` is what `advance` gave
+    module _ (budget : ℕ) (a : Advanced) (ea : a ≡ advanced (l .state) budget) where
+      state-is : a .state ≡ job-state frame budget
+      state-is = ap (λ (x : Advanced). x .state) ea ∙ ap (λ (x : Loaded). advanced (x .state) budget .state) e
+
+      pub job-sums-accepted : (w : SumsWritten) (r : ℕ) (words left : List ℤ) → w ≡ sums-written (a .state) (length words) → left ≡ sums-list (a .state) words
+          → r ≡ answer-of (w .refusal) 0 (w .count)
+          → (r ≡ job-sums-answer frame budget (length words)) × (left ≡ job-sums-list frame budget words)
+      unfolding job-sums-answer job-sums-list
+      job-sums-accepted w r words left ew eb er =
+          let q = eq-eqb (loaded frame .refusal) 0 none in
+          (er ∙ rw (ew, state-is, q), eb ∙ rw (state-is, q))
+
+      pub job-trace-accepted : (c : Recorded) (w : TraceWritten) (r : ℕ) (out left : List ℕ)
+          → c ≡ record-answer (a .state) → w ≡ trace-writer-answer (c .trace) (length out) → left ≡ trace-writer-buffer (c .trace) out
+          → r ≡ answer-of (w .refusal) 0 (w .length)
+          → (r ≡ job-trace-answer frame budget (length out)) × (left ≡ job-trace-buffer frame budget out)
+      unfolding job-trace-answer job-trace-buffer job-record
+      job-trace-accepted c w r out left ec ew eb er =
+          let q = eq-eqb (loaded frame .refusal) 0 none in
+          let t : c .trace ≡ record-answer (job-state frame budget) .trace = ap (λ (x : Recorded). x .trace) ec ∙ ap (λ s. record-answer s .trace) state-is in
+          (er ∙ rw (ew, t, q), eb ∙ rw (t, q))

@@ -6,7 +6,9 @@ use lib.{Dec.ltb, Dec.eqb, IntN.ℤ, IntN.pos, ListN.length, ListN.drop}
 use Rattle.job.specs.{Header.count, Refusal.Check, Refusal.first-refusal, Refusal.Decides, declared.Header.Header}
 use Rattle.header.specs.Header.{header-of}
 use Rattle.frame.specs.declared.FrameWritten.{FrameWritten}
+use Rattle.state.specs.declared.State.{State}
 use Rattle.evaluator.specs.Evaluator.{loaded, advanced}
+use Rattle.running_sums.specs.{RunningSums.sums-written, RunningSums.sums-list, declared.SumsWritten.SumsWritten}
 use Rattle.trace.specs.{Trace.digit-list, Trace.trace-checks, Trace.trace-refusal, Trace.trace-record, Trace.record-answer, Trace.trace-writer-answer, Trace.trace-writer-buffer, declared.Record.Record, declared.TraceWritten.TraceWritten}
 use Rattle.accuracy.specs.{Promise.Promise, declared.Evaluated.Evaluated}
 
@@ -45,15 +47,32 @@ header kind code p f n m = record { kind = kind; code = code; p = p; f = f; n = 
 abbrev pub frame-answer : FrameWritten → ℕ
 frame-answer w = answer-of (w .refusal) (w .row) (w .length)
 
--- ---- em_write_trace: refused as load is; else the record of the job after an advance is written. The count
--- is the trace's bytes
+-- ---- em_running_sums and em_write_trace: refused as load is; else a call on the job's state after an advance
+
+-- a refused advance leaves the state as it is
+abbrev pub job-state : (frame : List ℕ) (budget : ℕ) → State
+job-state frame budget = advanced (loaded frame .state) budget .state
+
+-- ---- em_running_sums: the running sums of that state. The count is the words
+
+abbrev pub sums-answer : SumsWritten → ℕ
+sums-answer w = answer-of (w .refusal) 0 (w .count)
+
+unfoldable pub job-sums-answer : (frame : List ℕ) (budget room : ℕ) → ℕ
+job-sums-answer frame budget room =
+    cond (eqb (loaded frame .refusal) 0) (sums-answer (sums-written (job-state frame budget) room))
+    (answer-of (loaded frame .refusal) (loaded frame .row) 0)
+
+unfoldable pub job-sums-list : (frame : List ℕ) (budget : ℕ) (words : List ℤ) → List ℤ
+job-sums-list frame budget words = cond (eqb (loaded frame .refusal) 0) (sums-list (job-state frame budget) words) words
+
+-- ---- em_write_trace: the record of that state is written. The count is the trace's bytes
 
 abbrev pub trace-answer : TraceWritten → ℕ
 trace-answer w = answer-of (w .refusal) 0 (w .length)
 
--- a refused advance leaves the state as it is
 unfoldable pub job-record : (frame : List ℕ) (budget : ℕ) → Record
-job-record frame budget = record-answer (advanced (loaded frame .state) budget .state) .trace
+job-record frame budget = record-answer (job-state frame budget) .trace
 
 unfoldable pub job-trace-answer : (frame : List ℕ) (budget room : ℕ) → ℕ
 job-trace-answer frame budget room =

@@ -12,7 +12,7 @@ ghost use Rattle.job.specs.Header.{Limits};
 ghost use Rattle.frame.specs.Frame.{frame-writer-answer, frame-writer-buffer};
 ghost use Rattle.trace.specs.Inner.{digits-from};
 ghost use Rattle.state.specs.State.{all-steps, digit-places};
-ghost use Rattle.emethod_c.specs.Foreign.{if-accepted, answer-of, scaled-answer-of, check-answer, Evaluates, header, frame-answer, job-trace-answer, job-trace-buffer, header-words, words-of, word-count, words-answer, words-left, most-words};
+ghost use Rattle.emethod_c.specs.Foreign.{if-accepted, answer-of, scaled-answer-of, check-answer, Evaluates, header, frame-answer, job-sums-answer, job-sums-list, job-trace-answer, job-trace-buffer, header-words, words-of, word-count, words-answer, words-left, most-words};
 use job::Header;
 use job::ROWS;
 use state::DIGITS;
@@ -93,6 +93,24 @@ pub extern "C" fn em_write_frame(
     };
     let w = frame::write_frame(h, numbers, out);
     answer(w.refusal, w.row, w.length)
+}
+
+// Loads a frame, advances it by the budget, and writes the running sums of its columns. An advance that is
+// refused, as with budget 0, leaves the state as it is, and that state's sums are written.
+#[no_mangle]
+pub extern "C" fn em_running_sums(frame: &[u8], budget: u64, words: &mut [i64]) -> u64
+    ensures { λ r. ⌜ r ≡ job-sums-answer (now (frame .entry)) budget (length (now (words .entry))) ⌝ }
+    ensures { λ r. ⌜ now (words .exit) ≡ job-sums-list (now (frame .entry)) budget (now (words .entry)) ⌝ }
+{
+    let l = evaluator::load(frame);
+    if 0 < l.refusal {
+        return answer(l.refusal, l.row, 0);
+    }
+    let s = l.state;
+    let a = evaluator::advance(s, budget);
+    let t = a.state;
+    let w = running_sums::running_sums(t, words);
+    answer(w.refusal, 0, w.count)
 }
 
 // Loads a frame, advances it by the budget, and writes its trace. An advance that is refused, as with

@@ -1,17 +1,21 @@
 // Frames and traces from an independent model, held to what it says of them. Standard input has many of them,
-// one after the other: a byte `f` for a frame or `t` for a trace, the number of its bytes in two bytes, most
-// significant first, and its bytes.
+// one after the other: a byte, the number of its bytes in two bytes, most significant first, and its bytes. The
+// byte before them is `f` for a frame, `c` for a frame whose columns are shown, or `t` for a trace.
 //
-// A frame is printed as `edigits` prints it. A trace is read and printed: `refused` and the number; or a line
+// A frame is printed as `edigits` prints it. Of its columns the running sums are printed after 0, 1 and 2 steps
+// and after all: the steps made, and the words; or `refused`, the number, and the row of a heavy row. A trace is read and printed: `refused` and the number; or a line
 // kind, r, p, f, n, m, k, and a line for each step, its number and the digits by row. An accepted frame or
 // trace is written again too, and so is the trace of the frame's job; a line `differs`, which the model never
 // prints, says where that gives other bytes.
 use emethod::FrameRead;
 use emethod::FrameWritten;
 use emethod::Header;
+use emethod::Loaded;
 use emethod::Printed;
 use emethod::Record;
 use emethod::Recorded;
+use emethod::State;
+use emethod::SumsWritten;
 use emethod::TraceWritten;
 use job::NUMBERS;
 use job::ROWS;
@@ -19,6 +23,9 @@ use state::DIGITS;
 
 // Where the loop ends if the input does not: more vectors than there are.
 const MOST: usize = 10000;
+
+// The most words of the running sums: for each of 16 columns its number and 16 sums.
+const WORDS: usize = 272;
 
 // The most steps of a job, as a budget for all of them.
 const ALL_STEPS: u64 = 60;
@@ -37,13 +44,13 @@ fn print_field(n: usize) {
     print_number(n);
 }
 
-// A space and a digit with its sign.
-fn print_digit(d: i8) {
+// A space and a number with its sign.
+fn print_signed(z: i64) {
     io::write_all(1, b" ");
-    if d < 0 {
+    if z < 0 {
         io::write_all(1, b"-");
     }
-    io::print_decimal(1, integers::magnitude(integers::widen(d)));
+    io::print_decimal(1, integers::magnitude(z));
 }
 
 // The line kind, r, p, f, n, m, k. The codes 0 to 3 stand for the radixes 2, 4, 8, 16.
@@ -65,7 +72,7 @@ fn print_place(i: usize, d: i8, n: usize) {
         print_number(i / ROWS + 1);
     }
     if i % ROWS < n {
-        print_digit(d);
+        print_signed(integers::widen(d));
     }
     if i % ROWS == ROWS - 1 {
         print_newline();
@@ -171,6 +178,55 @@ fn show_frame(s: &[u8]) {
     }
 }
 
+// The first n words of the list, a space before each.
+fn print_words(list: &[i64; WORDS], n: usize) {
+    let mut i: usize = 0;
+    while i < WORDS {
+        if i < n {
+            print_signed(list[i]);
+        }
+        i += 1;
+    }
+}
+
+// The line of a state: the steps made, and the words that the call writes. The list has room for all.
+fn show_sums(s: State) {
+    let mut list = [0i64; WORDS];
+    let w: SumsWritten = emethod::running_sums(s, &mut list);
+    print_number(s.k);
+    print_words(&list, w.count);
+    print_newline();
+    print_differs(w.refusal == 0);
+}
+
+// The lines of a job: after 0, 1 and 2 steps, which every job has, and after all where there are more.
+fn show_job(s: State) {
+    show_sums(s);
+    let a = emethod::advance(s, 1);
+    show_sums(a.state);
+    let b = emethod::advance(a.state, 1);
+    show_sums(b.state);
+    let c = emethod::advance(b.state, ALL_STEPS);
+    if c.refusal == 0 {
+        show_sums(c.state);
+    }
+}
+
+// Prints the columns of one frame.
+fn show_columns(s: &[u8]) {
+    let l: Loaded = emethod::load(s);
+    if l.refusal == 0 {
+        show_job(l.state);
+        return;
+    }
+    io::write_all(1, b"refused");
+    print_field(l.refusal);
+    if l.row != 0 {
+        print_field(l.row);
+    }
+    print_newline();
+}
+
 // Reads as many bytes as asked for, or as there are, to the front of a buffer; how many were read.
 fn read_front(buf: &mut [u8], size: usize) -> usize {
     if buf.len() < size {
@@ -186,6 +242,8 @@ fn print_front(tag: u8, buf: &[u8], n: usize) {
     }
     if tag == b'f' {
         show_frame(&buf[0..n]);
+    } else if tag == b'c' {
+        show_columns(&buf[0..n]);
     } else {
         show_trace(&buf[0..n]);
     }

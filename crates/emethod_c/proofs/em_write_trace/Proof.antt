@@ -39,8 +39,8 @@ returns-2 c =
     let e = v .before .before in
     let l = e .before .before in
     let a = l .before .before .before .args in
-    job-trace-accepted (a .frame .now) (l .load .result) (l .load .ensures) (e .if1 .left) (a .budget) (v .advance .result) (t .record-of .result) (w .write-trace .result)
-    (c .answer2 .result) (a .out .now) _ (v .advance .ensures) (t .record-of .ensures) (w .write-trace .ensures .0) (w .write-trace .ensures .1) (c .answer2 .ensures)
+    job-trace-accepted (a .frame .now) (l .load .result) (l .load .ensures) (e .if1 .left) (a .budget) (v .advance .result) (v .advance .ensures) (t .record-of .result) (w .write-trace .result)
+    (c .answer2 .result) (a .out .now) _ (t .record-of .ensures) (w .write-trace .ensures .0) (w .write-trace .ensures .1) (c .answer2 .ensures)
 
 pub em-write-trace-spec : {M : Type 1} → statement M
 em-write-trace-spec =
