@@ -85,5 +85,5 @@ module _ (s : State) (out : List ℤ) (bad : ℕ) (checked : bad ≡ first-refus
         unfolding sums-written sums-list
         sums-put left e = (
           rw (accepted, count-is) refl,
-          e ∙ rw (accepted, words-alike (at d) (last-digit s) n (s .g) n digit-is, columns-alike (at d) (last-digit s) n digit-is) refl,
+          e ∙ rw (accepted, words-alike (at d) (last-digit s) n (s .g) (s .g) n digit-is (λ i k l m. refl), columns-alike (at d) (last-digit s) n digit-is) refl,
         )

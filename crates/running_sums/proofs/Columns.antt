@@ -105,7 +105,7 @@ module _ (n : ℕ) (g : List ℤ) (d : ℕ → ℤ) where
   length-words (suc j) =
       length-append (words-below n g d j) (column-words n g d j) ∙ omega (arith, length-words j, length-column (skipped (d j)) (columns-below d j) j)
 
--- ---- only the digits of the columns count
+-- ---- only the digits of the columns count, and the entries of these columns in the rows
 
 module _ (d d′ : ℕ → ℤ) where
   pub columns-alike : (j : ℕ) → ((i : ℕ) → i < j → d i ≡ d′ i) → columns-below d j ≡ columns-below d′ j
@@ -113,9 +113,11 @@ module _ (d d′ : ℕ → ℤ) where
   columns-alike zero e = refl
   columns-alike (suc j) e = rw (columns-alike j (λ i l. e i (omega arith)), e j (omega arith)) refl
 
-  pub words-alike : (n : ℕ) (g : List ℤ) (j : ℕ) → ((i : ℕ) → i < j → d i ≡ d′ i) → words-below n g d j ≡ words-below n g d′ j
+  pub words-alike : (n : ℕ) (g g′ : List ℤ) (j : ℕ) → ((i : ℕ) → i < j → d i ≡ d′ i) → ((i k : ℕ) → i < n → k < j → entry g i k ≡ entry g′ i k)
+      → words-below n g d j ≡ words-below n g′ d′ j
   unfolding words-below
-  words-alike n g zero e = refl
-  words-alike n g (suc j) e =
-      let sums = list-from-alike 0 n (running-sum g d (suc j)) (running-sum g d′ (suc j)) (λ i a b. dot-ext (suc j) (entry g i) (entry g i) d d′ (λ t l. refl) e) in
-      rw (words-alike n g j (λ i l. e i (omega arith)), e j (omega arith), sums) refl
+  words-alike n g g′ zero e f = refl
+  words-alike n g g′ (suc j) e f =
+      let sums = list-from-alike 0 n (running-sum g d (suc j)) (running-sum g′ d′ (suc j))
+      (λ i a b. dot-ext (suc j) (entry g i) (entry g′ i) d d′ (λ k l. f i k (omega arith) l) e) in
+      rw (words-alike n g g′ j (λ i l. e i (omega arith)) (λ i k l m. f i k l (omega arith)), e j (omega arith), sums) refl

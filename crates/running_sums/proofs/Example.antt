@@ -1,8 +1,9 @@
 -- The running sums at work on case A with the x of 3 that document 02 gives it: what the definitions give
 -- after one step and after two, and a number out of each statement.
-use mathlib.Core.Path.{_≡_, refl, _∙_}
+use mathlib.Core.Path.{_≡_, refl, sym, ap, _∙_}
 use mathlib.Core.Bool.{true}
 use mathlib.Core.List.{List, [], _∷_}
+use Prim.Native.Nat.{_≤_}
 use native.Mathlib.Omega.{arith}
 use lib.IntN.{ℤ, pos}
 use lib.ListN.{take, drop, replicate}
@@ -16,9 +17,11 @@ use Rattle.scale.specs.Scale.{every}
 use Rattle.recurrence.specs.Recurrence.{shifted, next-digit, next-residual, select, rounded, estimate, cut-down, digit-size}
 use Rattle.state.specs.State.{beyond, fresh, breaks-limit, digits-of}
 use Rattle.state.specs.declared.State.{State}
+use Rattle.state.proofs.PastOrder.{overwritten, overwritten-below}
 use Rattle.stepping.specs.Steps.{stepped-digits, stepped-residuals, steps, one-step}
 use Rattle.running_sums.specs.RunningSums.{words-below, columns-below, state-words, word-count, sums-checks, sums-refusal, sums-written, sums-list}
-use Rattle.running_sums.specs.Theorems.{SumsDecided, RefusedSums, NothingAtFirst, SumsFront, SumsPast, ColumnStands, NextStepAdds}
+use Rattle.running_sums.specs.declared.SumsWritten.{SumsWritten}
+use Rattle.running_sums.specs.Theorems.{SumsDecided, RefusedSums, NothingAtFirst, SumsBelow, SumsFront, SumsPast, ColumnStands, NextStepAdds}
 
 -- ---- polynomial, radix 2, f 4, n 2, m 4; x 3, p_0 3 and p_1 8: G has the entry 3 in row 1, column 2, and no
 -- other
@@ -88,6 +91,16 @@ refuses r = r first two (omega (arith, first-refusals .1))
 starts : NothingAtFirst → (state-words job ≡ []) × (word-count job ≡ 0)
 unfolding job fresh
 starts n = n job refl
+
+order : first .header .n ≤ 2
+unfolding first
+order = omega arith
+
+-- 7 stored past the order, in row 3 of everything
+past-order : SumsBelow → (sums-written (overwritten first 2 0 0 (pos 7)) 4 .count ≡ 3) × (sums-list (overwritten first 2 0 0 (pos 7)) four ≡ pos 2 ∷ pos 3 ∷ pos 0 ∷ pos 9 ∷ [])
+past-order b =
+    let h = b first (overwritten first 2 0 0 (pos 7)) four (overwritten-below first 2 0 0 (pos 7) order (omega arith) (omega arith)) in
+    (sym (ap (λ (w : SumsWritten). w .count) (h .answer)) ∙ first-sums .1, sym (h .list) ∙ first-sums .0)
 
 fronts : SumsFront → take 3 (sums-list first four) ≡ pos 2 ∷ pos 3 ∷ pos 0 ∷ []
 fronts f = (rw (first-sums .1) at (f first four (first-refusals .0))) ∙ first-sums .2

@@ -4,5 +4,6 @@ mod Put
 mod Calls
 mod Places
 pub mod Theorems
+pub mod PastOrder
 pub mod NextStep
 mod Example

@@ -1,6 +1,6 @@
 -- What is promised of the running sums, over the definitions of RunningSums.antt. The contract says that the
 -- call answers and leaves what these definitions say, so each statement here is one about the call. The
--- proofs are in proofs/Theorems.antt and proofs/NextStep.antt: `sums-decided` is one of `SumsDecided`, and so
+-- proofs are in proofs/Theorems.antt, proofs/PastOrder.antt and proofs/NextStep.antt: `sums-decided` is one of `SumsDecided`, and so
 -- on.
 use mathlib.Core.{Path._≡_, Bool.false, Bool.cond, List.List, List.[]}
 use Prim.Native.Nat.{ℕ, suc, _+_, _-_, _*_, _<_, _≤_}
@@ -9,7 +9,7 @@ use Rattle.integers.specs.Flat.{at}
 use Rattle.column.specs.Column.{skipped}
 use Rattle.job.specs.{Header.radix, Refusal.Decides}
 use Rattle.recurrence.specs.Recurrence.{select}
-use Rattle.state.specs.{State.digits-of, State.state-unit, State.all-steps, declared.State.State}
+use Rattle.state.specs.{State.digits-of, State.state-unit, State.all-steps, State.SameBelow, declared.State.State}
 use Rattle.stepping.specs.Steps.{state-factor, one-step}
 use Rattle.running_sums.specs.RunningSums.{running-sum, word-count-below, last-digit, state-words, word-count, sums-checks, sums-refusal, sums-written, sums-list}
 
@@ -26,6 +26,14 @@ RefusedSums = (s : State) (out : List ℤ) → 0 < sums-refusal s (length out) �
 -- after 0 steps there is nothing to write, whatever the room
 abbrev pub NothingAtFirst : Type 0
 NothingAtFirst = (s : State) → s .k ≡ 0 → (state-words s ≡ []) × (word-count s ≡ 0)
+
+-- no entry past the order is looked at: of two states that agree below it the call answers and leaves the same
+pub record SumsAlike (s t : State) (out : List ℤ) : Type 0 where
+  pub answer : sums-written s (length out) ≡ sums-written t (length out)
+  pub list : sums-list s out ≡ sums-list t out
+
+abbrev pub SumsBelow : Type 0
+SumsBelow = (s t : State) (out : List ℤ) → SameBelow s t → SumsAlike s t out
 
 -- ---- demand 2: what the call does
 
