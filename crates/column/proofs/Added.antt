@@ -118,8 +118,8 @@ module _ {g s : List ℤ} {j lo hi : ℕ} {d : ℤ} (h : MayAddColumn g j lo hi 
       value : (t : ℕ) → t < hi - i → column-added g j i d s₁ t ≡ column-added g j lo d s (i - lo + t)
       value t l = let p : lo + (i - lo + t) ≡ i + t = omega arith in rw (p, kept-from (i + t) (omega arith)) refl
 
--- ---- one column more: from sums over the columns below j to sums over those below j + 1. Where the rows from
--- lo on and below hi are taken, the entries in the others are 0
+-- ---- one column more: from sums over the columns below j to sums over those below j + 1. Where the rows
+-- from lo on and below hi are taken, the entries in the others are 0
 
 module _ (n j lo hi : ℕ) (g s s′ : List ℤ) (d : ℕ → ℤ) (room : n ≤ length s) (last : hi ≤ n) (before : Zeros (column g j) 0 lo) (after : Zeros (column g j) hi n)
     (e : s′ ≡ stores s (λ t. lo + t) (column-added g j lo (d j) s) (hi - lo)) where

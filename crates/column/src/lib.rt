@@ -1,6 +1,6 @@
-// One column of the matrix added to the rows' sums, with its digit of the step before (document 02, request 5).
-// Steps add one column after the other so, and so does the call that shows it. A column whose digit is 0 is
-// skipped: its rows keep their sums.
+// One column of the matrix added to the rows' sums, with its digit of the step before (document 02, request
+// 5). Steps add one column after the other so, and so does the call that shows it. A column whose digit is 0
+// is skipped: its rows keep their sums.
 ghost use mathlib.Core.Path.{_≡_};
 ghost use Prim.Native.Nat.{_+_, _-_, _^_};
 ghost use lib.IntN.{_+ℤ_, _*ℤ_};
@@ -19,8 +19,8 @@ pub fn sum_after(s: i64, e: i64, d: i64) -> i64
     if d == 0 { s } else { s + e * d }
 }
 
-// Adds column j, whose digit is d, to the sums of the rows from lo on and below hi. A curve's columns have one
-// entry; so the first row stands before the loop, which then has nothing left to do.
+// Adds column j, whose digit is d, to the sums of the rows from lo on and below hi. A curve's columns have
+// one entry; so the first row stands before the loop, which then has nothing left to do.
 pub fn add_column(g: &[i64; ENTRIES], j: usize, lo: usize, hi: usize, d: i64, s: &mut [i64; ROWS])
     requires { ⌜ MayAddColumn (now g) j lo hi d (now s) ⌝ }
     ensures { λ _. ⌜ now (s .exit) ≡ stores (now (s .entry)) (λ t. lo + t) (column-added (now (g .entry)) j lo d (now (s .entry))) (hi - lo) ⌝ }

@@ -47,7 +47,8 @@ header kind code p f n m = record { kind = kind; code = code; p = p; f = f; n = 
 abbrev pub frame-answer : FrameWritten → ℕ
 frame-answer w = answer-of (w .refusal) (w .row) (w .length)
 
--- ---- em_running_sums and em_write_trace: refused as load is; else a call on the job's state after an advance
+-- ---- em_running_sums and em_write_trace: refused as load is; else a call on the job's state after an
+-- advance
 
 -- a refused advance leaves the state as it is
 abbrev pub job-state : (frame : List ℕ) (budget : ℕ) → State

@@ -67,8 +67,8 @@ pub fn no_header() -> Header
     }
 }
 
-// The radix 2, 4, 8 or 16 of a radix code. A shift makes it, so that the compiler knows it for a power of 2 and
-// multiplies by it with a shift: a reading waits for one product after the other.
+// The radix 2, 4, 8 or 16 of a radix code. A shift makes it, so that the compiler knows it for a power of 2
+// and multiplies by it with a shift: a reading waits for one product after the other.
 pub fn radix(code: usize) -> usize
     requires { ⌜ code ≤ 3 ⌝ }
     ensures { λ r. ⌜ r ≡ radix code ⌝ }

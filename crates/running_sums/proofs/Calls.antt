@@ -1,5 +1,5 @@
--- What the call answers and leaves, over the locals of its code: by what it is refused, and what the functions
--- that it calls ask. Cited by the proof of `running_sums`.
+-- What the call answers and leaves, over the locals of its code: by what it is refused, and what the
+-- functions that it calls ask. Cited by the proof of `running_sums`.
 use mathlib.Core.Path.{_≡_, refl, sym, _∙_}
 use mathlib.Core.List.{List, [], _∷_, _++_}
 use Prim.Native.Nat.{ℕ, _+_, _*_, _<_, _≤_}

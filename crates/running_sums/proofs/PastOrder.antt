@@ -1,5 +1,5 @@
--- No entry past the order is looked at: the proof of `SumsBelow`. Of states that 20 or 24 refuse nothing more is
--- looked at; of one that passes, the digits of the last step and the matrix below the order.
+-- No entry past the order is looked at: the proof of `SumsBelow`. Of states that 20 or 24 refuse nothing more
+-- is looked at; of one that passes, the digits of the last step and the matrix below the order.
 use mathlib.Core.Path.{_≡_, refl, sym, ap, ap₂}
 use mathlib.Core.List.{List, [], _∷_, _++_}
 use mathlib.Core.Logic.{_⊎_, inl, inr}

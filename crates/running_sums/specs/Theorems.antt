@@ -1,7 +1,7 @@
 -- What is promised of the running sums, over the definitions of RunningSums.antt. The contract says that the
 -- call answers and leaves what these definitions say, so each statement here is one about the call. The
--- proofs are in proofs/Theorems.antt, proofs/PastOrder.antt and proofs/NextStep.antt: `sums-decided` is one of `SumsDecided`, and so
--- on.
+-- proofs are in proofs/Theorems.antt, proofs/PastOrder.antt and proofs/NextStep.antt: `sums-decided` is one
+-- of `SumsDecided`, and so on.
 use mathlib.Core.{Path._≡_, Bool.false, Bool.cond, List.List, List.[]}
 use Prim.Native.Nat.{ℕ, suc, _+_, _-_, _*_, _<_, _≤_}
 use lib.{Dec.eqb, IntN.ℤ, IntN.pos, IntN._+ℤ_, IntN._-ℤ_, IntN._*ℤ_, ListN.length, ListN.take, ListN.drop}
@@ -27,7 +27,8 @@ RefusedSums = (s : State) (out : List ℤ) → 0 < sums-refusal s (length out) �
 abbrev pub NothingAtFirst : Type 0
 NothingAtFirst = (s : State) → s .k ≡ 0 → (state-words s ≡ []) × (word-count s ≡ 0)
 
--- no entry past the order is looked at: of two states that agree below it the call answers and leaves the same
+-- no entry past the order is looked at: of two states that agree below it the call answers and leaves the
+-- same
 pub record SumsAlike (s t : State) (out : List ℤ) : Type 0 where
   pub answer : sums-written s (length out) ≡ sums-written t (length out)
   pub list : sums-list s out ≡ sums-list t out

@@ -1,5 +1,5 @@
 -- The rows in which a column can have an entry other than 0. Cited by the proofs of `column_start`,
--- `column_end` and the two that call them.
+-- `column_end` and the two that call them, and of `first_sums`.
 use mathlib.Core.Path.{_≡_, refl, sym, _∙_}
 use mathlib.Core.List.{List}
 use mathlib.Core.Logic.{_⊎_, inl, inr}
@@ -12,8 +12,9 @@ use lib.Signed.{mag}
 use mir.Syntax.{w64}
 use mir.Val.{ofZ}
 use Rattle.integers.proofs.Maximum.{le-or-lt}
-use Rattle.column.specs.Column.{Zeros}
+use Rattle.column.specs.Column.{column, Zeros}
 use Rattle.integers.proofs.Machine.{i64-kept}
+use Rattle.stepping.specs.Inner.{Start, End}
 
 -- an entry whose bits are all 0
 pub read-zero : (x : ℤ) → mag x < 2 ^ 63 → ofZ w64 x ≡ 0 → x ≡ pos 0
@@ -40,6 +41,13 @@ module _ (f : ℕ → ℤ) where
       by-case : (a ≤ j) ⊎ (j < a) → f j ≡ pos 0
       by-case (inl k) = h j k m
       by-case (inr k) = let same : j ≡ c = omega arith in rw same e
+
+-- every row of a column
+pub from-first : (n : ℕ) (g : List ℤ) (j : ℕ) → Start n g j 0
+from-first n g j = (omega arith, no-zeros (column g j) 0)
+
+pub to-last : (n : ℕ) (g : List ℤ) (j : ℕ) → End n g j n
+to-last n g j = (omega arith, no-zeros (column g j) n)
 
 -- ---- what a loop over the columns finds for each column
 

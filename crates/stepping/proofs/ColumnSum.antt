@@ -1,12 +1,12 @@
--- The rows' sums, one column after the other: how they begin with column 0, one column more, and when all are
--- added. Cited by the proofs of `begin_sums` and `column_sums`.
+-- The rows' sums, one column after the other: how they begin, with column 0 or with none, one column more,
+-- and when all are added. Cited by the proofs of `begin_sums`, `column_sums` and `first_sums`.
 use mathlib.Core.Path.{_≡_, refl, sym, ap, _∙_}
 use mathlib.Core.List.{List}
 use mathlib.Core.Logic.{_⊎_, inl, inr}
 use Prim.Native.Nat.{ℕ, _+_, _-_, _*_, _^_, _<_, _≤_}
 use native.Mathlib.Omega.{arith}
 use lib.IntN.{ℤ, pos, natAbs, _+ℤ_, _*ℤ_, +ℤ-idl}
-use lib.ListN.{length, getD}
+use lib.ListN.{length, getD, replicate}
 use lib.Seq.{ext-getD}
 use mir.Syntax.{w8, w64}
 use mir.Val.{toZ, ofZ}
@@ -19,7 +19,7 @@ use Rattle.column.specs.Column.{MayAddColumn, column-added}
 use Rattle.column.proofs.Added.{length-column-next, column-next-past, column-next}
 use Rattle.stepping.specs.Steps.{filled}
 use Rattle.stepping.specs.Inner.{row-dot, MaySum, MaySumRows, Start, End, MayBegin, first-product}
-use Rattle.stepping.proofs.Stepped.{length-filled, filled-past, filled-row}
+use Rattle.stepping.proofs.Stepped.{length-filled, filled-past, filled-row, at-zeros}
 
 -- ---- what may be summed is small
 
@@ -67,6 +67,11 @@ pub record SoFar (n j : ℕ) (g d s₀ s : List ℤ) : Type 0 where
   pub size : length s ≡ 16
   pub rows : (i : ℕ) → i < n → at s i ≡ row-dot j g d i
   pub past : (i : ℕ) → n ≤ i → at s i ≡ at s₀ i
+
+-- none, and sums of 0
+pub sums-none : (n : ℕ) (g d : List ℤ) → SoFar n 0 g d (replicate 16 (pos 0)) (replicate 16 (pos 0))
+sums-none n g d =
+    record { size = refl; rows = λ i l. at-zeros i ∙ sym (dot-zero (entry g i) (at d)); past = λ i l. refl }
 
 module _ {n : ℕ} {g d : List ℤ} (order : n ≤ 16) (h : MaySumRows n g d) where
   -- a digit as it is lent on: `x` is what `widen` gave of it

@@ -1,5 +1,5 @@
 pub mod Residual
-pub mod Turn
+pub mod Chosen
 pub mod Shifted
 pub mod ColumnSpan
 pub mod ColumnSum

@@ -15,7 +15,7 @@ use Rattle.job.specs.declared.Header.{Header}
 use Rattle.job.specs.Header.{Limits, digit-bits, radix}
 use Rattle.recurrence.specs.Recurrence.{shifted, LightRows, WithinBounds}
 use Rattle.recurrence.proofs.Theorems.{bound}
-use Rattle.stepping.specs.Inner.{row-dot, MayChoose, Signs, Summed, MaySumRows, MayTabulate}
+use Rattle.stepping.specs.Inner.{row-dot, MayChoose, Summed, MaySumRows, MayTabulate}
 use Rattle.stepping.specs.Steps.{finer}
 use Rattle.stepping.proofs.Shifted.{shifted-together}
 
@@ -52,10 +52,6 @@ module _ {n r c p u : ℕ} {g z d : List ℤ} (h : KeepsLimits n r c p u g z d) 
   pub may-tabulate : MayTabulate n g
   may-tabulate i j l m = omega (arith, entry-le-weight n (entry g i) j m, h .weights i l)
 
-  -- with digits of radix 2
-  pub digits-signs : p ≡ 1 → Signs n d
-  digits-signs e j l = omega (arith, e, h .within .d-small j l)
-
   -- s has the rows' sums
   module _ {s : List ℤ} (sums : Summed n g d s) where
     sum-small : (i : ℕ) → i < n → natAbs (at s i) ≤ 2 ^ 48
@@ -66,10 +62,13 @@ module _ {n r c p u : ℕ} {g z d : List ℤ} (h : KeepsLimits n r c p u g z d) 
     may-choose-from =
         record {
           order = h .order;
-          radix = h .radix .1;
-          units = mul-le-mul (h .radix .1) (h .factor);
-          largest = h .largest;
-          residuals = λ i l. omega (arith, h .within .z-small i l, h .unit-most);
-          sums = sum-small;
-          bound = λ i l. rw (sums .rows i l, shifted-together (at z i) (row-dot n g d i) r c, ← dot-scale n (pos c) (entry g i) (at d)) (bound (h .light) (h .within) i l);
+          rows = λ i l.
+              record {
+                radix = h .radix .1;
+                units = mul-le-mul (h .radix .1) (h .factor);
+                largest = h .largest;
+                residual = omega (arith, h .within .z-small i l, h .unit-most);
+                sum = sum-small i l;
+                bound = rw (sums .rows i l, shifted-together (at z i) (row-dot n g d i) r c, ← dot-scale n (pos c) (entry g i) (at d)) (bound (h .light) (h .within) i l);
+              };
         }

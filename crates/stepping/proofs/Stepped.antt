@@ -3,7 +3,7 @@
 use mathlib.Core.Path.{_≡_, refl, sym, subst, _∙_}
 use mathlib.Core.List.{List}
 use mathlib.Core.Logic.{_⊎_, inl, inr}
-use Prim.Native.Nat.{ℕ, zero, suc, _+_, _*_, _<_, _≤_}
+use Prim.Native.Nat.{ℕ, _+_, _*_, _<_, _≤_}
 use native.Mathlib.Numerals.{add-one}
 use native.Mathlib.Omega.{arith}
 use lib.IntN.{ℤ, pos, natAbs}
@@ -15,7 +15,6 @@ use Rattle.recurrence.specs.Recurrence.{select, shifted, next-digit, next-resid
 use Rattle.recurrence.proofs.Selection.{select-selects}
 use Rattle.recurrence.proofs.Theorems.{bounds-kept-next}
 use Rattle.integers.specs.Flat.{at, entry}
-use Rattle.integers.specs.Sum.{dot}
 use Rattle.integers.proofs.Stores.{stores-zero, stores-suc, stores-ext, length-stores, stores-other, stores-at}
 use Rattle.job.specs.Rules.{bound-over, bound-under}
 use Rattle.stepping.specs.Steps.{filled, finer, stepped-digits, stepped-residuals}
@@ -111,15 +110,13 @@ pub filled-summed : {n : ℕ} {g d s : List ℤ} (v : List ℤ) → length v ≡
 filled-summed {n} {g} {d} {s} v size order e =
     record { rows = λ i l. rw e (filled-row (row-dot n g d) v n i l (omega (arith, size))) }
 
--- before the first step: with digits that are 0 every sum is 0, with any row,
-pub zeros-dot : (n : ℕ) (row : ℕ → ℤ) {d : List ℤ} (i : ℕ) → d ≡ replicate 16 (pos 0) → at (replicate 16 (pos 0)) i ≡ dot n row (at d)
-zeros-dot n row {d} i e = at-zeros i ∙ sym (dot-none n row (at d) (λ j l. rw e (at-zeros j)))
-
--- and so with those of a matrix
+-- before the first step: with digits that are 0 every sum is 0
 module _ (n : ℕ) (g : List ℤ) {d : List ℤ} (order : n ≤ 16) (e : d ≡ replicate 16 (pos 0)) where
   zeros-row : (i : ℕ) → (n ≤ i) ⊎ (i < n) → at (replicate 16 (pos 0)) i ≡ at (filled (row-dot n g d) (replicate 16 (pos 0)) n) i
   zeros-row i (inl m) = sym (filled-past (row-dot n g d) (replicate 16 (pos 0)) n i m)
-  zeros-row i (inr m) = zeros-dot n (entry g i) i e ∙ sym (filled-row (row-dot n g d) (replicate 16 (pos 0)) n i m (omega arith))
+  zeros-row i (inr m) =
+      at-zeros i ∙ sym (dot-none n (entry g i) (at d) (λ j l. rw e (at-zeros j)))
+      ∙ sym (filled-row (row-dot n g d) (replicate 16 (pos 0)) n i m (omega arith))
 
   pub zeros-filled : replicate 16 (pos 0) ≡ filled (row-dot n g d) (replicate 16 (pos 0)) n
   zeros-filled =

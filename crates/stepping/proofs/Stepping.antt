@@ -10,7 +10,7 @@ use native.Mathlib.Numerals.{add-one}
 use native.Mathlib.Omega.{arith}
 use borrow.Author.Tests.{le-ltb}
 use lib.Dec.{ltb}
-use lib.IntN.{ℤ, pos}
+use lib.IntN.{ℤ, pos, natAbs}
 use lib.ListN.{length, replicate, List·getD-eq-default}
 use lib.Pow.{pow-pos}
 use lib.Seq.{ext-getD}
@@ -23,8 +23,10 @@ use Rattle.job.proofs.Limits as limits
 use Rattle.job.specs.declared.Header.{Header}
 use Rattle.selection.specs.Selection.{selection-table}
 use Rattle.stepping.specs.Steps.{filled, last-digits, state-factor, chosen-digits, residuals-left, digits-stored, one-step, steps}
-use Rattle.stepping.specs.Inner.{digit-from, residual-from, Vector, MayChoose, row-dot, Summed, MaySumRows, Signs, Between, MayStepOnce, Stepped, MayStep}
-use Rattle.stepping.proofs.Limits.{KeepsLimits, may-sum-rows, digits-signs, may-choose-from}
+use Rattle.stepping.specs.Inner.{digit-from, residual-from, Vector, MayChoose, row-dot, Summed, MaySumRows, FirstZero, Between, MayStepOnce, Stepped, MayStep}
+use Rattle.stepping.proofs.Limits.{KeepsLimits, radix-two, may-sum-rows, may-choose-from}
+use Rattle.stepping.proofs.Chosen.{digit-most}
+use Rattle.stepping.proofs.Digits.{first-zero}
 use Rattle.stepping.proofs.Stepped.{vector-zeros, length-stepped-digits, stepped-digit-past, filled-summed, length-filled, filled-row, filled-stepped, filled-left, keeps-limits-next}
 use Rattle.state.specs.State.{state-unit, digits-of, PassesLimits}
 use Rattle.state.specs.Inner.{state-of}
@@ -97,35 +99,44 @@ pub rows-summed : {n : ℕ} {g d s : List ℤ} (v : List ℤ) → length v ≡ 1
 rows-summed {n} {g} {d} v size order e = (rw e (length-filled (row-dot n g d) v n ∙ size), filled-summed v size order e)
 
 -- a step can be made with the digits of the step before
-pub first-limits : {s : State} {before : List ℤ} → PassesLimits s → before ≡ last-digits s
+first-limits : {s : State} {before : List ℤ} → PassesLimits s → before ≡ last-digits s
     → KeepsLimits (s .header .n) (radix (s .header .code)) (state-factor s) (s .header .p) (state-unit s) (s .g) (s .z) before
 first-limits b e = rw e (keeps-limits _ b)
 
-module _ {s : State} {r q bits : ℕ} {before chosen sums : List ℤ} (a : MayStepOnce s r q bits before chosen sums) where
+-- and the rows be summed with them
+pub may-sum-first : {s : State} {before : List ℤ} → PassesLimits s → before ≡ last-digits s
+    → (s .header .n ≤ 16) × MaySumRows (s .header .n) (s .g) before × FirstZero (s .k) before
+may-sum-first {s} b e = (b .limits .order-most, may-sum-rows (first-limits b e), first-zero (s .digits) (s .header .n) (s .k) e)
+
+-- p is the largest digit
+module _ {s : State} {r q bits : ℕ} {before chosen sums : List ℤ} (a : MayStepOnce s r q bits before chosen sums) {p : ℕ} (ep : p ≡ s .header .p) where
   abbrev n : ℕ
   n = s .header .n
-
-  abbrev p : ℕ
-  p = s .header .p
 
   abbrev u : ℕ
   u = 2 ^ bits
 
   step-limits : KeepsLimits n r (state-factor s) p u (s .g) (s .z) before
-  step-limits = rw (a .radix-is, a .bits-are .0) (first-limits (a .may .passes) (a .between .last))
+  step-limits = rw (ep, a .radix-is, a .bits-are .0) (first-limits (a .may .passes) (a .between .last))
 
-  -- `choices` is the table that is lent
+  every-row : MayChoose n r q p u (s .z) sums
+  every-row = rw (a .units-are) (may-choose-from step-limits (a .between .summed))
+
+  -- a digit can be chosen in every row, and is at most p: `choices` is the table that is lent
   pub may-choose : {choices : List ℤ} → choices ≡ selection-table → (choices ≡ selection-table) × (s .k < 60) × (4 ≤ bits) × (bits ≤ 44) × MayChoose n r q p u (s .z) sums
-  may-choose t = (t, omega (arith, steps-have-room (a .may)), a .bits-are .1, a .bits-are .2, rw (a .units-are) (may-choose-from step-limits (a .between .summed)))
+  may-choose t = (t, omega (arith, steps-have-room (a .may)), a .bits-are .1, a .bits-are .2, every-row)
 
-  -- `new` has what `choose` left in the vector being chosen
+  pub digits-most : (i : ℕ) → i < n → natAbs (digit-from r q p u (s .z) sums i) ≤ p
+  digits-most i l = digit-most (pow-pos bits) (every-row .rows i l)
+
+  -- `new` has what the choice left in the vector being chosen
   module _ {new : List ℤ} (ec : new ≡ filled (digit-from r q p u (s .z) sums) chosen n) where
     new-is : new ≡ chosen-digits s
     new-is =
         ec ∙ filled-stepped (a .between .summed) r (state-factor s) p u (s .z) (a .units-are) (a .between .free)
-        ∙ rw (a .radix-is, a .bits-are .0, a .between .last) refl
+        ∙ rw (ep, a .radix-is, a .bits-are .0, a .between .last) refl
 
-    next-limits : KeepsLimits n (radix (s .header .code)) (state-factor s) p (state-unit s) (s .g) (residuals-left s) new
+    next-limits : KeepsLimits n (radix (s .header .code)) (state-factor s) (s .header .p) (state-unit s) (s .g) (residuals-left s) new
     next-limits =
         keeps-limits-next (rw (a .bits-are .0) at (pow-pos bits)) (keeps-limits s (a .may .passes)) refl new-is
 
@@ -133,22 +144,21 @@ module _ {s : State} {r q bits : ℕ} {before chosen sums : List ℤ} (a : MaySt
     pub may-sum : MaySumRows n (s .g) new
     may-sum = may-sum-rows next-limits
 
-    pub new-signs : p ≡ 1 → Signs n new
-    new-signs e = digits-signs next-limits e
+    -- in the rows below n it has the digits chosen, and only these are stored
+    pub new-row : (i : ℕ) → i < n → at new i ≡ digit-from r q p u (s .z) sums i
+    new-row i l =
+        rw ec (filled-row (digit-from r q p u (s .z) sums) chosen n i l (omega (arith, a .between .free .size, a .may .passes .limits .order-most)))
 
-    -- only the rows below n are stored, and there it has what was chosen
     new-stored : stores (s .digits) (λ i. 16 * s .k + i) (digit-from r q p u (s .z) sums) n ≡ digits-stored n (s .k) (s .digits) new
-    new-stored =
-        stores-ext _ _ _ _ n
-        (λ i l. sym (rw ec (filled-row (digit-from r q p u (s .z) sums) chosen n i l (omega (arith, a .between .free .size, a .may .passes .limits .order-most)))))
+    new-stored = stores-ext _ _ _ _ n (λ i l. sym (new-row i l))
 
-    -- and the step is made: `z` and `ds` have what `choose` left, and `sums′` the rows' sums
+    -- and the step is made: `z` and `ds` have what the choice left, and `sums′` the rows' sums
     pub stepped : {z ds sums′ : List ℤ} → z ≡ filled (residual-from r q p u (s .z) sums) (s .z) n → ds ≡ stores (s .digits) (λ i. 16 * s .k + i) (digit-from r q p u (s .z) sums) n
         → Summed n (s .g) new sums′ → Stepped s z ds new sums′
     unfolding one-step
     stepped ez ed es =
         record {
-          residuals = ez ∙ filled-left (a .between .summed) r (state-factor s) p u (s .z) (a .units-are) ∙ rw (a .radix-is, a .bits-are .0, a .between .last) refl;
+          residuals = ez ∙ filled-left (a .between .summed) r (state-factor s) p u (s .z) (a .units-are) ∙ rw (ep, a .radix-is, a .bits-are .0, a .between .last) refl;
           digits = ed ∙ new-stored ∙ rw new-is refl;
           newest = new-is;
           summed = es;
@@ -162,11 +172,13 @@ pub record Reached (s : State) (j : ℕ) (ds z before chosen sums : List ℤ) : 
   pub residuals : z ≡ steps s j .z
   pub between : Between (steps s j) before chosen sums
 
-pub reached-start : {s : State} {before sums : List ℤ} → before ≡ last-digits s → Summed (s .header .n) (s .g) before sums
-    → Reached s 0 (s .digits) (s .z) before (replicate 16 (pos 0)) sums
+-- none: `sums` is what `first_sums` gave
+pub reached-start : {s : State} {before sums : List ℤ} → PassesLimits s → before ≡ last-digits s → sums ≡ filled (row-dot (s .header .n) (s .g) before) (replicate 16 (pos 0)) (s .header .n)
+    → (length sums ≡ 16) × Reached s 0 (s .digits) (s .z) before (replicate 16 (pos 0)) sums
 unfolding steps
-reached-start {s} e h =
-    record { digits = refl; residuals = refl; between = record { last = e; free = vector-zeros (s .header .n); summed = h } }
+reached-start {s} {before} b e f =
+    let q = rows-summed {d = before} (replicate 16 (pos 0)) refl (b .limits .order-most) f in
+    (q .0, record { digits = refl; residuals = refl; between = record { last = e; free = vector-zeros (s .header .n); summed = q .1 } })
 
 module _ {s : State} {made j : ℕ} {ds z before chosen sums : List ℤ} (b : MayStep s made) (l : j < made) (h : Reached s j ds z before chosen sums) where
   abbrev S : State

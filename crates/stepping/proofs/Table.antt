@@ -1,6 +1,6 @@
--- The table of the columns and their negatives: how it is filled, how 16 of its numbers are added to the
--- sums, and that its sums are the matrix's. Cited by the proofs of `place_column`, `columns` and `add_rows`,
--- and by those of `step_by_signs` and `run_by_signs`. Which columns are added is in `Listing`.
+-- The table of the columns and their negatives: how it is filled, and how 16 of its numbers are added to the
+-- sums. Cited by the proofs of `place_column`, `columns` and `add_rows`. Which columns are added is in
+-- `Listing`.
 use mathlib.Core.Path.{_≡_, refl, sym, _∙_}
 use mathlib.Core.List.{List}
 use mathlib.Core.Logic.{_⊎_, inl, inr}
@@ -14,10 +14,9 @@ use mir.Syntax.{w64}
 use mir.Val.{SFits, toZ, ofZ}
 use Rattle.integers.proofs.Maximum.{le-or-lt}
 use Rattle.integers.proofs.Machine.{Machine, known, bounded, machs, machine-fits, machine-eq}
-use Rattle.integers.proofs.Product.{dot-ext}
 use Rattle.integers.specs.Flat.{at, entry}
 use Rattle.stepping.specs.Steps.{filled}
-use Rattle.stepping.specs.Inner.{cell, table-row, Tabulated, Columns, TableSums, Summed, MayTabulate, MayAdd, added}
+use Rattle.stepping.specs.Inner.{cell, Tabulated, Columns, MayTabulate, MayAdd, added}
 use Rattle.stepping.proofs.Stepped.{filled-past}
 
 -- ---- filling it
@@ -116,11 +115,8 @@ module _ (n : ℕ) (g : List ℤ) (order : n ≤ 16) (small : MayTabulate n g) w
 pub columns-filled : {n : ℕ} {g t : List ℤ} → n ≤ 16 → MayTabulate n g → Tabulated n g t (16 * n) → Columns n g t
 columns-filled {n} {g} {t} order small h =
     record {
-      table =
-          record {
-            negatives = λ e l. h .negatives e l ∙ rw (h .entries e l) refl;
-            small = λ e l. rw (h .entries e l) (cell-small n g order small e l);
-          };
+      negatives = λ e l. h .negatives e l ∙ rw (h .entries e l) refl;
+      small = λ e l. rw (h .entries e l) (cell-small n g order small e l);
       entries = λ i j l m. h .entries (16 * j + i) (omega arith) ∙ cell-is n g i j l order;
     }
 
@@ -142,8 +138,3 @@ module _ {t : List ℤ} {place : ℕ} {s₀ : List ℤ} (h : MayAdd t place s₀
 
   pub added-is : toZ w64 (ofZ w64 (toZ w64 (ofZ w64 (at s i)) +ℤ toZ w64 (ofZ w64 (at t (place + i))))) ≡ added t place s₀ i
   added-is = let a = the-sum in let b = the-number in machine-eq (search machs depth 9) tt refl
-
--- the sums of a matrix's table are the matrix's
-pub table-summed : {n : ℕ} {g t : List ℤ} (d s : List ℤ) → n ≤ 16 → Columns n g t → TableSums n t d s → Summed n g d s
-table-summed {n} {g} {t} d s order h k =
-    record { rows = λ i l. k i (omega arith) ∙ dot-ext n (table-row t i) (entry g i) (at d) (at d) (λ j m. h .entries i j l m) (λ j m. refl) }

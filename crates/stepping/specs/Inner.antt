@@ -60,8 +60,8 @@ pub record MayBegin (n : ℕ) (g : List ℤ) (d : ℤ) : Type 0 where
 abbrev pub first-product : (g : List ℤ) (d : ℤ) (i : ℕ) → ℤ
 first-product g d i = entry g i 0 *ℤ d
 
--- ---- the columns and their negatives, for digits of radix 2: a half of 256 for the negatives and one for the
--- columns, in each of which the 16 rows of a column stand one after the other
+-- ---- the columns and their negatives, for digits of radix 2: a half of 256 for the negatives and one for
+-- the columns, in each of which the 16 rows of a column stand one after the other
 
 -- how many numbers these are
 abbrev pub both-halves : ℕ
@@ -82,23 +82,12 @@ pub record Tabulated (n : ℕ) (g t : List ℤ) (e : ℕ) : Type 0 where
 abbrev pub table-row : List ℤ → ℕ → ℕ → ℤ
 table-row t i j = at t (256 + (16 * j + i))
 
--- the first half has the negatives of the second, and no magnitude in it is above 2^40
-pub record Table (n : ℕ) (t : List ℤ) : Type 0 where
+-- a table of the matrix that g holds: the first half has the negatives of the second, and no magnitude in it
+-- is above 2^40
+pub record Columns (n : ℕ) (g t : List ℤ) : Type 0 where
   pub negatives : (e : ℕ) → e < 16 * n → at t e ≡ pos 0 -ℤ at t (256 + e)
   pub small : (e : ℕ) → e < 16 * n → natAbs (at t (256 + e)) ≤ 2 ^ 40
-
--- a table of the matrix that g holds
-pub record Columns (n : ℕ) (g t : List ℤ) : Type 0 where
-  pub table : Table n t
   pub entries : (i j : ℕ) → i < n → j < n → table-row t i j ≡ entry g i j
-
--- digits of radix 2
-abbrev pub Signs : ℕ → List ℤ → Type 0
-Signs n d = (j : ℕ) → j < n → natAbs (at d j) ≤ 1
-
--- s has the sum of each row of the table with the digits d
-abbrev pub TableSums : (n : ℕ) (t d s : List ℤ) → Type 0
-TableSums n t d s = (i : ℕ) → i < 16 → at s i ≡ dot n (table-row t i) (at d)
 
 -- the entries' negatives and the entries fit the table
 abbrev pub MayTabulate : (n : ℕ) (g : List ℤ) → Type 0
@@ -118,13 +107,14 @@ counted d count = cond (skipped d) count (count + 1)
 abbrev pub brought : (x : ℕ → ℤ) (d : ℤ) (j : ℕ) → ℤ
 brought x d j = cond (skipped d) (pos 0) (x (column-place d j))
 
--- the first `count` places of the list are those of the columns below n that are not skipped: a bound on what
--- the columns bring holds at each place listed, and a sum over the places is one over the columns
-pub record Listed (n : ℕ) (d : List ℤ) (list : List ℕ) (count : ℕ) : Type 0 where
+-- the first `count` places of the list are those of the columns below n that are not skipped, column j having
+-- the digit d j: a bound on what the columns bring holds at each place listed, and a sum over the places is
+-- one over the columns
+pub record Listed (n : ℕ) (d : ℕ → ℤ) (list : List ℕ) (count : ℕ) : Type 0 where
   pub size : length list ≡ 16
   pub few : count ≤ n
-  pub each : (x : ℕ → ℤ) (B : ℕ) → ((j : ℕ) → j < n → natAbs (brought x (at d j) j) ≤ B) → (c : ℕ) → c < count → natAbs (x (getD list c 0)) ≤ B
-  pub sums : (x : ℕ → ℤ) → sum count (λ c. x (getD list c 0)) ≡ sum n (λ j. brought x (at d j) j)
+  pub each : (x : ℕ → ℤ) (B : ℕ) → ((j : ℕ) → j < n → natAbs (brought x (d j) j) ≤ B) → (c : ℕ) → c < count → natAbs (x (getD list c 0)) ≤ B
+  pub sums : (x : ℕ → ℤ) → sum count (λ c. x (getD list c 0)) ≡ sum n (λ j. brought x (d j) j)
 
 -- the 16 numbers from a place in the table on may be added to the sums
 pub record MayAdd (t : List ℤ) (place : ℕ) (s : List ℤ) : Type 0 where
@@ -162,15 +152,19 @@ pub record Vector (n : ℕ) (v : List ℤ) : Type 0 where
   pub size : length v ≡ 16
   pub past : (i : ℕ) → n ≤ i → at v i ≡ pos 0
 
--- a digit may be chosen in every row: |w| is at most p units and the residual bound more
-pub record MayChoose (n r q p u : ℕ) (z s : List ℤ) : Type 0 where
-  pub order : n ≤ 16
+-- a digit may be chosen in row i: |w| is at most p units and the residual bound more
+pub record MayChooseRow (r q p u : ℕ) (z s : List ℤ) (i : ℕ) : Type 0 where
   pub radix : r ≤ 16
   pub units : q ≤ 256
   pub largest : p ≤ 15
-  pub residuals : (i : ℕ) → i < n → natAbs (at z i) ≤ 2 ^ 44
-  pub sums : (i : ℕ) → i < n → natAbs (at s i) ≤ 2 ^ 48
-  pub bound : (i : ℕ) → i < n → bound-under * natAbs (shifted-by r q z s i) ≤ (bound-under * p + bound-over) * u
+  pub residual : natAbs (at z i) ≤ 2 ^ 44
+  pub sum : natAbs (at s i) ≤ 2 ^ 48
+  pub bound : bound-under * natAbs (shifted-by r q z s i) ≤ (bound-under * p + bound-over) * u
+
+-- and in each row below n
+pub record MayChoose (n r q p u : ℕ) (z s : List ℤ) : Type 0 where
+  pub order : n ≤ 16
+  pub rows : (i : ℕ) → i < n → MayChooseRow r q p u z s i
 
 -- ---- a step
 

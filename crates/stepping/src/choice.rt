@@ -4,11 +4,12 @@
 ghost use mathlib.Core.Path.{_≡_};
 ghost use Prim.Native.Nat.{_+_, _*_, _^_, _<_, _≤_};
 ghost use lib.IntN.{pos, _+ℤ_, _-ℤ_, _*ℤ_};
+ghost use lib.ListN.{length, set};
 ghost use Rattle.integers.specs.Sum.{Within};
 ghost use Rattle.integers.specs.Flat.{stores};
 ghost use Rattle.selection.specs.Selection.{selection-table};
 ghost use Rattle.stepping.specs.Steps.{filled};
-ghost use Rattle.stepping.specs.Inner.{digit-from, residual-from, MayChoose};
+ghost use Rattle.stepping.specs.Inner.{digit-from, residual-from, MayChooseRow, MayChoose, Listed};
 use job::ROWS;
 use selection::ESTIMATES;
 use state::DIGITS;
@@ -37,10 +38,40 @@ fn residual_after(w: i64, q: i64, f: usize) -> i64
     w - unit(f) * q
 }
 
+// The choice of row i in the step after the k-th: the digit, chosen from the row's residual in z and its sum
+// in s. It is written to `new` and to its place in the array of all steps, where those of a step start 16
+// after those of the step before, and the residual that it leaves to z. `choices` is the selection table.
+fn choose_row(
+    choices: &[i8; ESTIMATES],
+    s: &[i64; ROWS],
+    z: &mut [i64; ROWS],
+    new: &mut [i8; ROWS],
+    digits: &mut [i8; DIGITS],
+    i: usize,
+    k: usize,
+    r: usize,
+    q: usize,
+    f: usize,
+    p: usize,
+) -> i64
+    requires { ⌜ (now choices ≡ selection-table) × (i < 16) × (k < 60) × (4 ≤ f) × (f ≤ 44) × MayChooseRow r q p (2 ^ f) (now z) (now s) i ⌝ }
+    ensures digit { λ d. ⌜ d ≡ digit-from r q p (2 ^ f) (now (z .entry)) (now (s .entry)) i ⌝ }
+    ensures newest { λ _. ⌜ now (new .exit) ≡ set (now (new .entry)) i (digit-from r q p (2 ^ f) (now (z .entry)) (now (s .entry)) i) ⌝ }
+    ensures stored { λ _. ⌜ now (digits .exit) ≡ set (now (digits .entry)) (16 * k + i) (digit-from r q p (2 ^ f) (now (z .entry)) (now (s .entry)) i) ⌝ }
+    ensures residual { λ _. ⌜ now (z .exit) ≡ set (now (z .entry)) i (residual-from r q p (2 ^ f) (now (z .entry)) (now (s .entry)) i) ⌝ }
+{
+    let w = shifted(z[i], s[i], r, q);
+    let d = selection::select(choices, w, f, p);
+    let digit = integers::narrow(d);
+    new[i] = digit;
+    digits[16 * k + i] = digit;
+    z[i] = residual_after(w, d, f);
+    d
+}
+
 // The choice of the step after the k-th: in `new` the digits chosen from the residuals z and the rows' sums s
 // with the digits of the step before, and in z the residuals that they leave. No row uses a digit that this
-// step has chosen. Each digit is stored in the array of all steps too, where those of a step start 16 after
-// those of the step before. The words past row n stay. `choices` is the selection table.
+// step has chosen. The words past row n stay.
 pub fn choose(
     choices: &[i8; ESTIMATES],
     s: &[i64; ROWS],
@@ -59,15 +90,40 @@ pub fn choose(
     ensures stored { λ _. ⌜ now (digits .exit) ≡ stores (now (digits .entry)) (λ i. 16 * k + i) (digit-from r q p (2 ^ f) (now (z .entry)) (now (s .entry))) n ⌝ }
     ensures residuals { λ _. ⌜ now (z .exit) ≡ filled (residual-from r q p (2 ^ f) (now (z .entry)) (now (s .entry))) (now (z .entry)) n ⌝ }
 {
-    let start = 16 * k;
     let mut i: usize = 0;
     while i < n {
-        let w = shifted(z[i], s[i], r, q);
-        let d = selection::select(choices, w, f, p);
-        let digit = integers::narrow(d);
-        new[i] = digit;
-        digits[start + i] = digit;
-        z[i] = residual_after(w, d, f);
+        choose_row(choices, s, z, new, digits, i, k, r, q, f, p);
         i += 1;
     }
+}
+
+// The same in radix 2, where digits are -1, 0 and 1, with a list of the columns that the next step adds: the
+// places of those whose digit is not 0, from the first. How many these are.
+pub fn choose_and_list(
+    choices: &[i8; ESTIMATES],
+    s: &[i64; ROWS],
+    z: &mut [i64; ROWS],
+    new: &mut [i8; ROWS],
+    digits: &mut [i8; DIGITS],
+    list: &mut [usize; ROWS],
+    n: usize,
+    k: usize,
+    q: usize,
+    f: usize,
+) -> usize
+    requires { ⌜ (now choices ≡ selection-table) × (k < 60) × (4 ≤ f) × (f ≤ 44) × (length (now list) ≡ 16) × MayChoose n 2 q 1 (2 ^ f) (now z) (now s) ⌝ }
+    ensures digits { λ _. ⌜ now (new .exit) ≡ filled (digit-from 2 q 1 (2 ^ f) (now (z .entry)) (now (s .entry))) (now (new .entry)) n ⌝ }
+    ensures stored { λ _. ⌜ now (digits .exit) ≡ stores (now (digits .entry)) (λ i. 16 * k + i) (digit-from 2 q 1 (2 ^ f) (now (z .entry)) (now (s .entry))) n ⌝ }
+    ensures residuals { λ _. ⌜ now (z .exit) ≡ filled (residual-from 2 q 1 (2 ^ f) (now (z .entry)) (now (s .entry))) (now (z .entry)) n ⌝ }
+    ensures listed { λ c. ⌜ Listed n (digit-from 2 q 1 (2 ^ f) (now (z .entry)) (now (s .entry))) (now (list .exit)) c ⌝ }
+{
+    let mut count: usize = 0;
+    let mut i: usize = 0;
+    while i < n {
+        let d = choose_row(choices, s, z, new, digits, i, k, 2, q, f, 1);
+        list[count] = super::signs::column_place(d, i);
+        count = super::signs::counted(d, count);
+        i += 1;
+    }
+    count
 }

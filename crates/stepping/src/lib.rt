@@ -1,18 +1,19 @@
-// Steps of a job. A step adds, as the array does, one column after the other over all rows, each with its digit
-// of the step before, skips those whose digit is 0, and then chooses a digit in each row. A column is multiplied
-// by its digit, or in radix 2 added or taken off, and `make_steps` takes what is likely to be faster. Its
-// contract is an equality with `steps` of specs/Steps.antt, which also says what steps have to do with the
-// recurrence.
+// Steps of a job. A step adds, as the array does, one column after the other over all rows, each with its
+// digit of the step before, skips those whose digit is 0, and then chooses a digit in each row. A column is
+// multiplied by its digit, or in radix 2 added or taken off, and `make_steps` takes what is likely to be
+// faster. Its contract is an equality with `steps` of specs/Steps.antt, which also says what steps have to do
+// with the recurrence.
 ghost use mathlib.Core.Path.{_≡_};
 ghost use mathlib.Core.Bool.{true};
 ghost use Prim.Native.Nat.{_≤_};
-ghost use lib.ListN.{length};
+ghost use lib.IntN.{pos};
+ghost use lib.ListN.{length, replicate};
 ghost use Rattle.integers.specs.Flat.{flat-vector};
 ghost use Rattle.selection.specs.Selection.{selection-table};
-ghost use Rattle.stepping.specs.Inner.{Starts, Ends, Columns, MayStepOnce, Stepped, MayStep};
+ghost use Rattle.stepping.specs.Inner.{row-dot, MaySumRows, FirstZero, Starts, Ends, Columns, MayStepOnce, Stepped, MayStep};
 ghost use Rattle.state.specs.State.{digits-of};
 ghost use Rattle.state.specs.Inner.{state-of};
-ghost use Rattle.stepping.specs.Steps.{steps};
+ghost use Rattle.stepping.specs.Steps.{filled, steps};
 use job::Header;
 use job::ROWS;
 use selection::ESTIMATES;
@@ -43,11 +44,29 @@ pub fn last_digits(digits: &[i8; DIGITS], k: usize, n: usize) -> [i8; ROWS]
     d
 }
 
+// The sum of each row below n with the digits d of step k, with which steps begin, one column after the
+// other, and zeros past row n. Before the first step every digit is 0, and so is every sum.
+fn first_sums<'a>(g: &'a [i64; ENTRIES], d: &'a [i8; ROWS], n: usize, k: usize) -> [i64; ROWS]
+    requires { ⌜ (n ≤ 16) × MaySumRows n (now g) (now d) × FirstZero k (now d) ⌝ }
+    ensures { λ s. ⌜ s ≡ filled (row-dot n (now (g .entry)) (now (d .entry))) (replicate 16 (pos 0)) n ⌝ }
+{
+    let mut s = [0i64; ROWS];
+    if k == 0 {
+        return s;
+    }
+    let mut j: usize = 0;
+    while j < n {
+        column::add_column(g, j, 0, n, integers::widen(d[j]), &mut s);
+        j += 1;
+    }
+    s
+}
+
 // The step after the k-th, with each column multiplied by its digit. The vector of the step before and the
-// vector being chosen go in by value, and the one chosen comes back; the caller swaps the two. `sums` comes in
-// with the rows' sums with the step before, whose digits the code need not look at again, and goes out with
-// those of the next step. These are made here, from the vector just chosen, since a copy of it has to wait until
-// the single digits are written.
+// vector being chosen go in by value, and the one chosen comes back; the caller swaps the two. `sums` comes
+// in with the rows' sums with the step before, whose digits the code need not look at again, and goes out
+// with those of the next step. These are made here, from the vector just chosen, since a copy of it has to
+// wait until the single digits are written.
 fn step_by_spans<'a>(
     h: Header,
     scale: usize,
@@ -75,8 +94,8 @@ fn step_by_spans<'a>(
     chosen
 }
 
-// Makes the steps with each column multiplied by its digit. After each step the two vectors change places: the
-// one just chosen is the step before of the next.
+// Makes the steps with each column multiplied by its digit. After each step the two vectors change places:
+// the one just chosen is the step before of the next.
 fn run_by_spans(
     h: Header,
     scale: usize,
@@ -99,7 +118,7 @@ fn run_by_spans(
     let ends = spans::column_ends(g, n);
     let mut before = last_digits(digits, k, n);
     let mut chosen = [0i8; ROWS];
-    let mut sums = spans::first_sums(g, &starts, &ends, &before, n, k);
+    let mut sums = first_sums(g, &before, n, k);
     let mut j: usize = 0;
     while j < made {
         let newest = step_by_spans(
@@ -125,12 +144,11 @@ fn run_by_spans(
     }
 }
 
-// The same step in radix 2, with each column added or taken off. The columns are those of g, which the contract
-// alone names.
+// The same step in radix 2, with each column added or taken off, and those whose digit is 0 left out of the
+// list. The columns are those of g, which the contract alone names.
 fn step_by_signs<'a>(
     h: Header,
     scale: usize,
-    r: usize,
     q: usize,
     bits: usize,
     k: usize,
@@ -143,12 +161,24 @@ fn step_by_signs<'a>(
     z: &mut [i64; ROWS],
     digits: &mut [i8; DIGITS],
 ) -> [i8; ROWS]
-    requires { ⌜ MayStepOnce (state-of true h scale k (now g) (now z) (now digits)) r q bits before chosen (now sums) × Columns (h .n) (now g) (now columns) × (h .p ≡ 1) × (now choices ≡ selection-table) ⌝ }
+    requires { ⌜ MayStepOnce (state-of true h scale k (now g) (now z) (now digits)) 2 q bits before chosen (now sums) × Columns (h .n) (now g) (now columns) × (h .p ≡ 1) × (now choices ≡ selection-table) ⌝ }
     ensures { λ v. ⌜ Stepped (state-of true h scale k (now (g .entry)) (now (z .entry)) (now (digits .entry))) (now (z .exit)) (now (digits .exit)) v (now (sums .exit)) ⌝ }
 {
     let n = h.n;
-    choice::choose(choices, sums, z, &mut chosen, digits, n, k, r, q, bits, h.p);
-    *sums = signs::column_sums(columns, &chosen, n);
+    let mut list = [0usize; ROWS];
+    let count = choice::choose_and_list(
+        choices,
+        sums,
+        z,
+        &mut chosen,
+        digits,
+        &mut list,
+        n,
+        k,
+        q,
+        bits,
+    );
+    *sums = signs::listed_sums(columns, &list, count);
     chosen
 }
 
@@ -174,13 +204,12 @@ fn run_by_signs(
     let columns = signs::columns(g, n);
     let mut before = last_digits(digits, k, n);
     let mut chosen = [0i8; ROWS];
-    let mut sums = signs::first_sums(&columns, &before, n, k);
+    let mut sums = first_sums(g, &before, n, k);
     let mut j: usize = 0;
     while j < made {
         let newest = step_by_signs(
             h,
             scale,
-            2,
             q,
             bits,
             k + j,
@@ -200,8 +229,8 @@ fn run_by_signs(
 }
 
 // Whether steps with columns added or taken off are likely to be faster, the time to place the columns
-// included: in radix 2, with enough rows and steps, where the first two rows have an entry in the last column.
-// The columns of a curve have few entries.
+// included: in radix 2, with enough rows and steps, where the first two rows have an entry in the last
+// column. The columns of a curve have few entries.
 fn signs_pay(g: &[i64; ENTRIES], n: usize, p: usize, made: usize) -> bool
     requires { ⌜ (n ≤ 16) × (made ≤ 60) ⌝ }
     ensures { λ b. ⌜ (b ≡ true → p ≡ 1) ⌝ }
@@ -221,8 +250,8 @@ fn signs_pay(g: &[i64; ENTRIES], n: usize, p: usize, made: usize) -> bool
     g[16 + (n - 1)] != 0
 }
 
-// Makes the steps. The selection table is made here, once for all of them. For callers that know their state to
-// pass 24.
+// Makes the steps. The selection table is made here, once for all of them. For callers that know their state
+// to pass 24.
 pub fn make_steps(
     h: Header,
     scale: usize,

@@ -1,12 +1,11 @@
-// The same sums in radix 2, where a column is added or taken off with no multiplication. The columns stand one
-// after the other, and so do their negatives; those whose digit is not 0 are listed, and added one after the
-// other over all 16 rows, several rows at once.
+// The same sums in radix 2, where a column is added or taken off with no multiplication. The columns stand
+// one after the other, and so do their negatives; those whose digit is not 0 are listed, and added one after
+// the other over all 16 rows, several rows at once.
 ghost use mathlib.Core.Path.{_≡_};
 ghost use Prim.Native.Nat.{_+_, _*_, _<_, _≤_};
 ghost use lib.IntN.{natAbs};
-ghost use lib.ListN.{length};
 ghost use Rattle.stepping.specs.Steps.{filled};
-ghost use Rattle.stepping.specs.Inner.{FirstZero, Tabulated, Table, Columns, Signs, TableSums, MayTabulate, MayAdd, added, column-place, counted, Listed, MayAddListed, ListedSums};
+ghost use Rattle.stepping.specs.Inner.{Tabulated, Columns, MayTabulate, column-place, counted, MayAdd, added, MayAddListed, ListedSums};
 use job::ROWS;
 use system::ENTRIES;
 
@@ -44,34 +43,19 @@ pub fn columns(g: &[i64; ENTRIES], n: usize) -> [i64; BOTH]
 
 // Where column j starts for the digit 1, or its negative for the digit -1. For a digit of 0, which a list has
 // not, it is a place between the two.
-fn column_place(d: i8, j: usize) -> usize
+pub fn column_place(d: i64, j: usize) -> usize
     requires { ⌜ (natAbs d ≤ 1) × (j < 16) ⌝ }
     ensures { λ b. ⌜ b ≡ column-place d j ⌝ }
 {
-    128 * (integers::to_unsigned(integers::widen(d) + 1) as usize) + 16 * j
+    128 * (integers::to_unsigned(d + 1) as usize) + 16 * j
 }
 
 // The columns listed after one more, which is skipped where its digit is 0.
-fn counted(d: i8, count: usize) -> usize
+pub fn counted(d: i64, count: usize) -> usize
     requires { ⌜ count < 16 ⌝ }
     ensures { λ c. ⌜ c ≡ counted d count ⌝ }
 {
     if d == 0 { count } else { count + 1 }
-}
-
-// Lists the places of the columns below n whose digit is not 0, from the first; how many there are.
-fn list_columns(d: &[i8; ROWS], n: usize, list: &mut [usize; ROWS]) -> usize
-    requires { ⌜ (n ≤ 16) × Signs n (now d) × (length (now list) ≡ 16) ⌝ }
-    ensures { λ c. ⌜ Listed n (now (d .entry)) (now (list .exit)) c ⌝ }
-{
-    let mut count: usize = 0;
-    let mut j: usize = 0;
-    while j < n {
-        list[count] = column_place(d[j], j);
-        count = counted(d[j], count);
-        j += 1;
-    }
-    count
 }
 
 // Adds the 16 rows from a place on to the sums.
@@ -87,7 +71,7 @@ fn add_rows(t: &[i64; BOTH], place: usize, s: &mut [i64; ROWS])
 }
 
 // The sums of the columns listed, one after the other.
-fn listed_sums<'a>(t: &'a [i64; BOTH], list: &'a [usize; ROWS], count: usize) -> [i64; ROWS]
+pub fn listed_sums<'a>(t: &'a [i64; BOTH], list: &'a [usize; ROWS], count: usize) -> [i64; ROWS]
     requires { ⌜ MayAddListed (now t) (now list) count ⌝ }
     ensures { λ s. ⌜ ListedSums (now (t .entry)) (now (list .entry)) count s ⌝ }
 {
@@ -98,25 +82,4 @@ fn listed_sums<'a>(t: &'a [i64; BOTH], list: &'a [usize; ROWS], count: usize) ->
         c += 1;
     }
     s
-}
-
-// The sum of each row with the digits d, one column after the other.
-pub fn column_sums<'a>(t: &'a [i64; BOTH], d: &'a [i8; ROWS], n: usize) -> [i64; ROWS]
-    requires { ⌜ (n ≤ 16) × Table n (now t) × Signs n (now d) ⌝ }
-    ensures { λ s. ⌜ TableSums n (now (t .entry)) (now (d .entry)) s ⌝ }
-{
-    let mut list = [0usize; ROWS];
-    let count = list_columns(d, n, &mut list);
-    listed_sums(t, &list, count)
-}
-
-// The same with the digits d of step k, with which steps begin. Before the first step every sum is 0.
-pub fn first_sums<'a>(t: &'a [i64; BOTH], d: &'a [i8; ROWS], n: usize, k: usize) -> [i64; ROWS]
-    requires { ⌜ (n ≤ 16) × Table n (now t) × Signs n (now d) × FirstZero k (now d) ⌝ }
-    ensures { λ s. ⌜ TableSums n (now (t .entry)) (now (d .entry)) s ⌝ }
-{
-    if k == 0 {
-        return [0i64; ROWS];
-    }
-    column_sums(t, d, n)
 }

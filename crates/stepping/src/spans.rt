@@ -1,12 +1,11 @@
-// The rows' sums with the digits of the step before, one column after the other, each multiplied by its digit.
-// Of a column only the rows from its first entry to its last are looked at: a curve's columns have one entry,
-// but for column 0. A column whose digit is 0 is skipped: its rows keep their sums.
+// The rows' sums with the digits of the step before, one column after the other, each multiplied by its
+// digit. Of a column only the rows from its first entry to its last are looked at: a curve's columns have one
+// entry, but for column 0. A column whose digit is 0 is skipped: its rows keep their sums.
 ghost use mathlib.Core.Path.{_≡_};
 ghost use Prim.Native.Nat.{_<_, _≤_};
-ghost use lib.IntN.{pos};
-ghost use lib.ListN.{length, replicate};
+ghost use lib.ListN.{length};
 ghost use Rattle.stepping.specs.Steps.{filled};
-ghost use Rattle.stepping.specs.Inner.{row-dot, MaySumRows, FirstZero, Start, Starts, End, Ends, MayBegin, first-product};
+ghost use Rattle.stepping.specs.Inner.{row-dot, MaySumRows, Start, Starts, End, Ends, MayBegin, first-product};
 use job::ROWS;
 use system::ENTRIES;
 
@@ -98,25 +97,4 @@ pub fn column_sums<'a>(
         column::add_column(g, j, starts[j], ends[j], integers::widen(d[j]), s);
         j += 1;
     }
-}
-
-// The sum of each row below n with the digits d of step k, with which steps begin, and zeros past row n.
-// Before the first step every digit is 0, and so is every sum.
-pub fn first_sums<'a>(
-    g: &'a [i64; ENTRIES],
-    starts: &'a [usize; ROWS],
-    ends: &'a [usize; ROWS],
-    d: &'a [i8; ROWS],
-    n: usize,
-    k: usize,
-) -> [i64; ROWS]
-    requires { ⌜ (1 ≤ n) × (n ≤ 16) × MaySumRows n (now g) (now d) × Starts n (now g) (now starts) × Ends n (now g) (now ends) × FirstZero k (now d) ⌝ }
-    ensures { λ s. ⌜ s ≡ filled (row-dot n (now (g .entry)) (now (d .entry))) (replicate 16 (pos 0)) n ⌝ }
-{
-    let mut s = [0i64; ROWS];
-    if k == 0 {
-        return s;
-    }
-    column_sums(g, starts, ends, d, n, &mut s);
-    s
 }

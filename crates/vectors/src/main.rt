@@ -1,12 +1,13 @@
 // Frames and traces from an independent model, held to what it says of them. Standard input has many of them,
-// one after the other: a byte, the number of its bytes in two bytes, most significant first, and its bytes. The
-// byte before them is `f` for a frame, `c` for a frame whose columns are shown, or `t` for a trace.
+// one after the other: a byte, the number of its bytes in two bytes, most significant first, and its bytes.
+// The byte before them is `f` for a frame, `c` for a frame whose columns are shown, or `t` for a trace.
 //
-// A frame is printed as `edigits` prints it. Of its columns the running sums are printed after 0, 1 and 2 steps
-// and after all: the steps made, and the words; or `refused`, the number, and the row of a heavy row. A trace is read and printed: `refused` and the number; or a line
-// kind, r, p, f, n, m, k, and a line for each step, its number and the digits by row. An accepted frame or
-// trace is written again too, and so is the trace of the frame's job; a line `differs`, which the model never
-// prints, says where that gives other bytes.
+// A frame is printed as `edigits` prints it. Of its columns the running sums are printed after 0, 1 and 2
+// steps and after all: the steps made, and the words; or `refused`, the number, and the row of a heavy row. A
+// trace is read and printed: `refused` and the number; or a line kind, r, p, f, n, m, k, and a line for each
+// step, its number and the digits by row. An accepted frame or trace is written again too, and so is the
+// trace of the frame's job; a line `differs`, which the model never prints, says where that gives other
+// bytes.
 use emethod::FrameRead;
 use emethod::FrameWritten;
 use emethod::Header;

@@ -4,12 +4,10 @@ use mathlib.Core.Path.{_≡_}
 use mathlib.Core.Bool.{true}
 use Prim.Native.Nat.{_-_, _≤_}
 use native.Mathlib.Omega.{arith}
-use Rattle.stepping.proofs.Digits.{first-zero}
-use Rattle.stepping.proofs.Limits.{radix-two, may-tabulate, digits-signs}
-use Rattle.stepping.proofs.Table.{table-summed}
+use Rattle.stepping.proofs.Limits.{radix-two, may-tabulate}
 use Rattle.state.specs.Inner.{state-of}
 use Rattle.stepping.proofs.Kept as kept
-use Rattle.stepping.proofs.Stepping.{Reached, first-limits, reached-start, reached-may, reached-next, steps-have-room}
+use Rattle.stepping.proofs.Stepping.{Reached, may-sum-first, reached-start, reached-may, reached-next, steps-have-room}
 use Rattle.stepping.proofs.run_by_signs.Statement.{statement}
 use Rattle.stepping.proofs.run_by_signs.Tie as tie
 
@@ -38,21 +36,17 @@ abbrev start : tie.After-last-digits Inv-loop μ-loop → tie.Start Inv-loop μ-
 start d = d .before .before .before .before .before
 
 first-sums-requires : tie.Need-first-sums-requires Inv-loop μ-loop
-first-sums-requires c κs =
-    let d = c .before .before in
-    let p = start d .pre in
-    let b = p .0 .passes in
-    (b .limits .order-most, d .before .before .columns .ensures .table, digits-signs (first-limits b (d .last-digits .ensures)) (p .1), first-zero _ _ _ (d .last-digits .ensures))
+first-sums-requires c κs = let d = c .before in may-sum-first (start d .pre .0 .passes) (d .last-digits .ensures)
 
 loop-holds : tie.Need-loop-holds Inv-loop μ-loop
 loop-holds c =
-    let d = c .before .before .before in
-    (omega arith, reached-start (d .last-digits .ensures) (table-summed _ _ (start d .pre .0 .passes .limits .order-most) (d .before .before .columns .ensures) (c .first-sums .ensures)))
+    let d = c .before .before in
+    (omega arith, reached-start (start d .pre .0 .passes) (d .last-digits .ensures) (c .first-sums .ensures) .1)
 
 -- ---- a turn
 
 abbrev begun : tie.In-loop Inv-loop μ-loop → tie.After-last-digits Inv-loop μ-loop
-begun i = i .before .before .before .before .before
+begun i = i .before .before .before .before
 
 add-step-by-signs : tie.Need-add-step-by-signs Inv-loop μ-loop
 add-step-by-signs c = omega (arith, steps-have-room (start (begun c) .pre .0), c .loop-test .taken)
@@ -86,7 +80,7 @@ loop-again c =
 returns : tie.Need-returns Inv-loop μ-loop
 returns c =
     let l = c .before .loop in
-    let e : l .j ≡ start (c .before .before .before .before .before) .args .made = omega arith in
+    let e : l .j ≡ start (c .before .before .before .before) .args .made = omega arith in
     (rw e at (l .inv .1 .residuals), rw e at (l .inv .1 .digits))
 
 pub run-by-signs-spec : {M : Type 1} → statement M

@@ -1,15 +1,12 @@
 -- The invariant: the arrays are the state's after j steps. The measure is what is left of the steps to be
 -- made.
-use mathlib.Core.Path.{_≡_, refl}
+use mathlib.Core.Path.{_≡_}
 use mathlib.Core.Bool.{true}
 use Prim.Native.Nat.{_-_, _≤_}
 use native.Mathlib.Omega.{arith}
-use lib.IntN.{pos}
-use lib.ListN.{length, replicate}
-use Rattle.stepping.proofs.Digits.{first-zero}
-use Rattle.stepping.proofs.Limits.{may-sum-rows}
+use lib.ListN.{length}
 use Rattle.state.specs.Inner.{state-of}
-use Rattle.stepping.proofs.Stepping.{Reached, rows-summed, first-limits, reached-start, reached-may, reached-next, steps-have-room}
+use Rattle.stepping.proofs.Stepping.{Reached, may-sum-first, reached-start, reached-may, reached-next, steps-have-room}
 use Rattle.stepping.proofs.run_by_spans.Statement.{statement}
 use Rattle.stepping.proofs.run_by_spans.Tie as tie
 
@@ -44,22 +41,19 @@ abbrev start : tie.After-last-digits Inv-loop μ-loop → tie.Start Inv-loop μ-
 start d = d .before .before .before .before .before .before .before
 
 first-sums-requires : tie.Need-first-sums-requires Inv-loop μ-loop
-first-sums-requires c κs =
-    let d = c .before .before .before in
-    let b = start d .pre .0 .passes in
-    (b .limits .order-least, b .limits .order-most, may-sum-rows (first-limits b (d .last-digits .ensures)), d .before .before .before .column-starts .ensures, d .before .before .column-ends .ensures, first-zero _ _ _ (d .last-digits .ensures))
+first-sums-requires c κs = let d = c .before in may-sum-first (start d .pre .0 .passes) (d .last-digits .ensures)
 
 loop-holds : tie.Need-loop-holds Inv-loop μ-loop
 loop-holds c =
-    let d = c .before .before .before .before in
+    let d = c .before .before in
     let j : 0 ≤ start d .args .made = omega arith in
-    let q = rows-summed (replicate 16 (pos 0)) refl (start d .pre .0 .passes .limits .order-most) (c .first-sums .ensures) in
-    (j, q .0, reached-start (d .last-digits .ensures) (q .1))
+    let q = reached-start (start d .pre .0 .passes) (d .last-digits .ensures) (c .first-sums .ensures) in
+    (j, q .0, q .1)
 
 -- ---- a turn
 
 abbrev begun : tie.In-loop Inv-loop μ-loop → tie.After-last-digits Inv-loop μ-loop
-begun i = i .before .before .before .before .before .before
+begun i = i .before .before .before .before
 
 add-step-by-spans : tie.Need-add-step-by-spans Inv-loop μ-loop
 add-step-by-spans c = omega (arith, steps-have-room (start (begun c) .pre .0), c .loop-test .taken)
@@ -95,7 +89,7 @@ loop-again c =
 returns : tie.Need-returns Inv-loop μ-loop
 returns c =
     let l = c .before .loop in
-    let e : l .j ≡ start (c .before .before .before .before .before .before) .args .made = omega arith in
+    let e : l .j ≡ start (c .before .before .before .before) .args .made = omega arith in
     (rw e at (l .inv .2 .residuals), rw e at (l .inv .2 .digits))
 
 pub run-by-spans-spec : {M : Type 1} → statement M

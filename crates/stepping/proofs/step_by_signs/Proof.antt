@@ -1,26 +1,34 @@
--- The digits are chosen and stored, and the rows are summed with them.
-use Rattle.stepping.proofs.Table.{table-summed}
-use Rattle.stepping.proofs.Stepping.{may-choose, new-signs, stepped}
+-- The digits are chosen, stored and listed, and the columns listed are summed.
+use mathlib.Core.Path.{refl, sym}
+use Rattle.stepping.proofs.Listing.{may-add-listed, listed-summed}
+use Rattle.stepping.proofs.Stepping.{may-choose, digits-most, new-row, stepped}
 use Rattle.stepping.proofs.step_by_signs.Statement.{statement}
 use Rattle.stepping.proofs.step_by_signs.Tie as tie
 
-choose-requires : tie.Need-choose-requires
-choose-requires c κs = let p = c .before .before .before .before .pre in may-choose (p .0) (p .3)
+choose-and-list-requires : tie.Need-choose-and-list-requires
+choose-and-list-requires c κs =
+    let p = c .before .before .before .before .before .pre in
+    let m = may-choose (p .0) (sym (p .2)) (p .3) in
+    (m .0, m .1, m .2, m .3, refl, m .4)
 
-abbrev start : tie.After-choose → tie.Start
-start d = d .before .before .before .before .before
+abbrev start : tie.After-choose-and-list → tie.Start
+start d = d .before .before .before .before .before .before
 
-column-sums-requires : tie.Need-column-sums-requires
-column-sums-requires c κs =
+listed-sums-requires : tie.Need-listed-sums-requires
+listed-sums-requires c κs =
     let d = c .before in
     let p = start d .pre in
-    (p .0 .may .passes .limits .order-most, p .1 .table, new-signs (p .0) (d .choose .ensures .0) (p .2))
+    may-add-listed (p .0 .may .passes .limits .order-most) (p .1) (digits-most (p .0) (sym (p .2))) (d .choose-and-list .ensures .1 .1 .1)
 
 returns : tie.Need-returns
 returns c =
     let d = c .before .before in
     let p = start d .pre in
-    stepped (p .0) (d .choose .ensures .0) (d .choose .ensures .1 .1) (d .choose .ensures .1 .0) (table-summed _ _ (p .0 .may .passes .limits .order-most) (p .1) (c .column-sums .ensures))
+    let a = p .0 in
+    let o = sym (p .2) in
+    let e = d .choose-and-list .ensures in
+    stepped a o (e .0) (e .1 .1 .0) (e .1 .0)
+    (listed-summed (p .0 .may .passes .limits .order-most) (p .1) (digits-most a o) (e .1 .1 .1) (new-row a o (e .0)) (c .listed-sums .ensures))
 
 pub step-by-signs-spec : {M : Type 1} → statement M
-step-by-signs-spec = tie.close (tie.spec choose-requires column-sums-requires returns)
+step-by-signs-spec = tie.close (tie.spec choose-and-list-requires listed-sums-requires returns)

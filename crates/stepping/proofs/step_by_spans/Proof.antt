@@ -1,10 +1,11 @@
 -- The digits are chosen and stored, and the rows are summed with them.
+use mathlib.Core.Path.{refl}
 use Rattle.stepping.proofs.Stepping.{rows-summed, may-choose, may-sum, stepped}
 use Rattle.stepping.proofs.step_by_spans.Statement.{statement}
 use Rattle.stepping.proofs.step_by_spans.Tie as tie
 
 choose-requires : tie.Need-choose-requires
-choose-requires c κs = let p = c .before .before .before .before .pre in may-choose (p .0) (p .4)
+choose-requires c κs = let p = c .before .before .before .before .pre in may-choose (p .0) refl (p .4)
 
 abbrev start : tie.After-choose → tie.Start
 start d = d .before .before .before .before .before
@@ -14,14 +15,14 @@ column-sums-requires c κs =
     let d = c .before .before in
     let p = start d .pre in
     let l = p .0 .may .passes .limits in
-    (l .order-least, l .order-most, p .3, may-sum (p .0) (d .choose .ensures .0), p .1, p .2)
+    (l .order-least, l .order-most, p .3, may-sum (p .0) refl (d .choose .ensures .0), p .1, p .2)
 
 returns : tie.Need-returns
 returns c =
     let d = c .before .before .before in
     let p = start d .pre in
     let q = rows-summed _ (p .3) (p .0 .may .passes .limits .order-most) (c .column-sums .ensures) in
-    (stepped (p .0) (d .choose .ensures .0) (d .choose .ensures .1 .1) (d .choose .ensures .1 .0) (q .1), q .0)
+    (stepped (p .0) refl (d .choose .ensures .0) (d .choose .ensures .1 .1) (d .choose .ensures .1 .0) (q .1), q .0)
 
 pub step-by-spans-spec : {M : Type 1} → statement M
 step-by-spans-spec = tie.close (tie.spec choose-requires column-sums-requires returns)

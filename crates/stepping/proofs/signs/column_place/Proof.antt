@@ -3,22 +3,19 @@ use mathlib.Core.Path.{_≡_, refl}
 use Prim.Native.Nat.{_<_}
 use native.Mathlib.Omega.{arith}
 use lib.IntN.{pos, natAbs, _+ℤ_}
-use Rattle.stepping.proofs.Listing.{raised-fits, raised-least, raised-read}
 use borrow.Author.Needs.{needs}
+use Rattle.stepping.proofs.Listing.{raised-fits, raised-least, raised-read}
 use Rattle.stepping.proofs.signs.column_place.Statement.{statement}
 use Rattle.stepping.proofs.signs.column_place.Tie as tie
 
-widen-requires : tie.Need-widen-requires
-widen-requires c κs = search needs
-
 add-to-unsigned : tie.Need-add-to-unsigned
-add-to-unsigned c = raised-fits (c .before .args .d) _ (c .before .pre .0) (c .widen .ensures)
+add-to-unsigned c = raised-fits (c .args .d) (c .pre .0)
 
 to-unsigned-requires : tie.Need-to-unsigned-requires
-to-unsigned-requires c κs = raised-least (c .before .args .d) _ (c .before .pre .0) (c .widen .ensures)
+to-unsigned-requires c κs = raised-least (c .args .d) (c .pre .0)
 
-read : (c : tie.After-to-unsigned) → (c .to-unsigned .result < 3) × (c .to-unsigned .result ≡ natAbs (c .before .before .args .d +ℤ pos 1))
-read c = let s = c .before .before in raised-read (s .args .d) _ (s .pre .0) (c .before .widen .ensures) _ (c .to-unsigned .ensures)
+read : (c : tie.After-to-unsigned) → (c .to-unsigned .result < 3) × (c .to-unsigned .result ≡ natAbs (c .before .args .d +ℤ pos 1))
+read c = raised-read (c .before .args .d) (c .before .pre .0) _ (c .to-unsigned .ensures)
 
 mul-result : tie.Need-mul-result
 mul-result c = omega (arith, read c .0)
@@ -34,12 +31,4 @@ returns c = rw (read c .1) refl
 
 pub column-place-spec : {M : Type 1} → statement M
 column-place-spec =
-    tie.close
-    (tie.spec
-    widen-requires
-    add-to-unsigned
-    to-unsigned-requires
-    mul-result
-    mul-result-2
-    add-result
-    returns)
+    tie.close (tie.spec add-to-unsigned to-unsigned-requires mul-result mul-result-2 add-result returns)

@@ -1,5 +1,5 @@
--- The invariant: the rows below i have their products with column 0's digit. The measure is what is left of the
--- rows.
+-- The invariant: the rows below i have their products with column 0's digit. The measure is what is left of
+-- the rows.
 use mathlib.Core.Path.{_≡_, sym}
 use Prim.Native.Nat.{_-_, _≤_}
 use native.Mathlib.Omega.{arith}

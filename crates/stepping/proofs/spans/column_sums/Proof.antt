@@ -1,4 +1,5 @@
--- The invariant: the rows have their sums over the columns below j. The measure is what is left of the columns.
+-- The invariant: the rows have their sums over the columns below j. The measure is what is left of the
+-- columns.
 use mathlib.Core.Path.{_≡_, refl}
 use Prim.Native.Nat.{_-_, _≤_}
 use native.Mathlib.Omega.{arith}
