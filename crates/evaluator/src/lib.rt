@@ -183,7 +183,7 @@ pub fn put_readings(h: Header, k: usize, digits: &[i8; DIGITS], out: &mut [i64])
     ensures { λ _. ⌜ now (out .exit) ≡ list-from 0 (h .n) (reading (radix (h .code)) (digits-of (now (digits .entry))) k) ++ drop (h .n) (now (out .entry)) ⌝ }
 {
     let n = h.n;
-    let r = job::radix(h.code);
+    let r = job::radix_by_shift(h.code);
     let mut i: usize = 0;
     while i < n {
         out[i] = reading(digits, i, k, r);

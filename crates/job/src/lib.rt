@@ -67,9 +67,26 @@ pub fn no_header() -> Header
     }
 }
 
-// The radix 2, 4, 8 or 16 of a radix code. A shift makes it, so that the compiler knows it for a power of 2
-// and multiplies by it with a shift: a reading waits for one product after the other.
+// The radix 2, 4, 8 or 16 of a radix code.
 pub fn radix(code: usize) -> usize
+    requires { ⌜ code ≤ 3 ⌝ }
+    ensures { λ r. ⌜ r ≡ radix code ⌝ }
+{
+    if code == 0 {
+        return 2;
+    }
+    if code == 1 {
+        return 4;
+    }
+    if code == 2 {
+        return 8;
+    }
+    16
+}
+
+// The same number, made by a shift: the compiler then knows it for a power of 2, and multiplies by it with a
+// shift. For readings, where each product waits for the one before.
+pub fn radix_by_shift(code: usize) -> usize
     requires { ⌜ code ≤ 3 ⌝ }
     ensures { λ r. ⌜ r ≡ radix code ⌝ }
 {

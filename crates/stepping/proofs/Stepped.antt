@@ -18,7 +18,7 @@ use Rattle.integers.specs.Flat.{at, entry}
 use Rattle.integers.proofs.Stores.{stores-zero, stores-suc, stores-ext, length-stores, stores-other, stores-at}
 use Rattle.job.specs.Rules.{bound-over, bound-under}
 use Rattle.stepping.specs.Steps.{filled, finer, stepped-digits, stepped-residuals}
-use Rattle.stepping.specs.Inner.{digit-from, residual-from, Vector, row-dot, Summed}
+use Rattle.stepping.specs.Inner.{digit-from, residual-from, row-dot, Summed}
 use Rattle.stepping.proofs.Limits.{KeepsLimits}
 use Rattle.stepping.proofs.Shifted.{shifted-together}
 
@@ -51,7 +51,7 @@ module _ (f : ℕ → ℤ) (v : List ℤ) where
       by-case (inl m) = subst Q (sym (List·getD-eq-default (filled f v n) (pos 0) (omega (arith, length-filled n)))) z
       by-case (inr m) = subst Q (sym (filled-row n i l m)) (h i l)
 
--- ---- vectors of n rows
+-- ---- a vector of zeros
 
 pub at-zeros : (i : ℕ) → at (replicate 16 (pos 0)) i ≡ pos 0
 at-zeros i = by-case (le-or-lt 16 i)
@@ -59,22 +59,6 @@ at-zeros i = by-case (le-or-lt 16 i)
     by-case : (16 ≤ i) ⊎ (i < 16) → at (replicate 16 (pos 0)) i ≡ pos 0
     by-case (inl m) = List·getD-eq-default (replicate 16 (pos 0)) (pos 0) m
     by-case (inr m) = getD-replicate 16 i (pos 0) (pos 0) m
-
-pub vector-zeros : (n : ℕ) → Vector n (replicate 16 (pos 0))
-vector-zeros n = record { size = refl; past = λ i l. at-zeros i }
-
-pub filled-is-vector : (f : ℕ → ℤ) {n : ℕ} {v : List ℤ} → Vector n v → Vector n (filled f v n)
-filled-is-vector f {n} {v} h = record { size = length-filled f v n ∙ h .size; past = λ i l. filled-past f v n i l ∙ h .past i l }
-
--- a vector of n rows filled is the vector of zeros filled
-pub filled-vector : (f : ℕ → ℤ) {n : ℕ} {v : List ℤ} → Vector n v → filled f v n ≡ filled f (replicate 16 (pos 0)) n
-filled-vector f {n} {v} h =
-    ext-getD (pos 0) (filled f v n) (filled f (replicate 16 (pos 0)) n) (length-filled f v n ∙ h .size ∙ sym (length-filled f (replicate 16 (pos 0)) n))
-    (λ i l. same i (omega (arith, length-filled f v n, h .size)) (le-or-lt n i))
-  where
-    same : (i : ℕ) → i < 16 → (n ≤ i) ⊎ (i < n) → at (filled f v n) i ≡ at (filled f (replicate 16 (pos 0)) n) i
-    same i l (inl m) = filled-past f v n i m ∙ h .past i m ∙ sym (filled-past f (replicate 16 (pos 0)) n i m ∙ at-zeros i)
-    same i l (inr m) = filled-row f v n i m (omega (arith, h .size)) ∙ sym (filled-row f (replicate 16 (pos 0)) n i m l)
 
 -- ---- a step
 
@@ -99,7 +83,7 @@ module _ (n r c p u : ℕ) (g z d : List ℤ) where
   -- past them
   pub stepped-digit-past : (i : ℕ) → n ≤ i → at (stepped-digits n r c p u g z d) i ≡ pos 0
   unfolding stepped-digits
-  stepped-digit-past i h = filled-is-vector (next-digit n r (select p u) (finer c (entry g)) (at z) (at d)) (vector-zeros n) .past i h
+  stepped-digit-past i h = filled-past (next-digit n r (select p u) (finer c (entry g)) (at z) (at d)) (replicate 16 (pos 0)) n i h ∙ at-zeros i
 
   pub stepped-residual-past : (i : ℕ) → n ≤ i → at (stepped-residuals n r c p u g z d) i ≡ at z i
   unfolding stepped-residuals
@@ -125,9 +109,9 @@ module _ (n : ℕ) (g : List ℤ) {d : List ℤ} (order : n ≤ 16) (e : d ≡ r
 
 -- chosen from the rows' sums, digits and residuals are those of the step
 module _ {n : ℕ} {g d s : List ℤ} (sums : Summed n g d s) (r c p u : ℕ) (z : List ℤ) {q : ℕ} (e : q ≡ r * c) where
-  pub filled-stepped : {v : List ℤ} → Vector n v → filled (digit-from r q p u z s) v n ≡ stepped-digits n r c p u g z d
+  pub filled-stepped : filled (digit-from r q p u z s) (replicate 16 (pos 0)) n ≡ stepped-digits n r c p u g z d
   unfolding stepped-digits next-digit shifted
-  filled-stepped h = filled-vector (digit-from r q p u z s) h ∙ stores-ext _ _ _ _ n (λ i l. rw (e, sums .rows i l, shifted-together (at z i) (row-dot n g d i) r c, dot-scale n (pos c) (entry g i) (at d)) refl)
+  filled-stepped = stores-ext _ _ _ _ n (λ i l. rw (e, sums .rows i l, shifted-together (at z i) (row-dot n g d i) r c, dot-scale n (pos c) (entry g i) (at d)) refl)
 
   pub filled-left : filled (residual-from r q p u z s) z n ≡ stepped-residuals n r c p u g z d
   unfolding stepped-residuals next-residual next-digit shifted

@@ -23,27 +23,16 @@ use Rattle.job.proofs.Limits as limits
 use Rattle.job.specs.declared.Header.{Header}
 use Rattle.selection.specs.Selection.{selection-table}
 use Rattle.stepping.specs.Steps.{filled, last-digits, state-factor, chosen-digits, residuals-left, digits-stored, one-step, steps}
-use Rattle.stepping.specs.Inner.{digit-from, residual-from, Vector, MayChoose, row-dot, Summed, MaySumRows, FirstZero, Between, MayStepOnce, Stepped, MayStep}
+use Rattle.stepping.specs.Inner.{digit-from, residual-from, MayChoose, row-dot, Summed, MaySumRows, FirstZero, Between, MayStepOnce, Stepped, MayStep}
 use Rattle.stepping.proofs.Limits.{KeepsLimits, radix-two, may-sum-rows, may-choose-from}
 use Rattle.stepping.proofs.Chosen.{digit-most}
 use Rattle.stepping.proofs.Digits.{first-zero}
-use Rattle.stepping.proofs.Stepped.{vector-zeros, length-stepped-digits, stepped-digit-past, filled-summed, length-filled, filled-row, filled-stepped, filled-left, keeps-limits-next}
+use Rattle.stepping.proofs.Stepped.{length-stepped-digits, stepped-digit-past, filled-summed, length-filled, filled-row, filled-stepped, filled-left, keeps-limits-next}
 use Rattle.state.specs.State.{state-unit, digits-of, PassesLimits}
 use Rattle.state.specs.Inner.{state-of}
 use Rattle.state.specs.declared.State.{State}
 use Rattle.stepping.proofs.Steps.{steps-header, steps-scale, steps-busy, steps-k, stored-same}
 use Rattle.stepping.proofs.Kept.{steps-pass-limits, keeps-limits}
-
--- ---- a vector of n rows in an array of 16
-
-vector-flat : (n : ℕ) (B : ℕ → ℤ) → Vector n (flat-vector n B)
-vector-flat n B = record { size = length-list-from 0 16 _; past = λ i l. past i l (le-or-lt 16 i) }
-  where
-    past : (i : ℕ) → n ≤ i → (16 ≤ i) ⊎ (i < 16) → at (flat-vector n B) i ≡ pos 0
-    past i l (inl m) = List·getD-eq-default (flat-vector n B) (pos 0) (omega (arith, length-list-from 0 16 (λ i. cond (ltb i n) (B i) (pos 0))))
-    past i l (inr m) =
-        let e : 0 + i ≡ i = omega arith in
-        getD-list-from 0 16 (λ i. cond (ltb i n) (B i) (pos 0)) i m ∙ rw (e, le-ltb i n l) refl
 
 -- ---- the digits of a step, stored and copied out again
 
@@ -109,7 +98,7 @@ pub may-sum-first : {s : State} {before : List ℤ} → PassesLimits s → befor
 may-sum-first {s} b e = (b .limits .order-most, may-sum-rows (first-limits b e), first-zero (s .digits) (s .header .n) (s .k) e)
 
 -- p is the largest digit
-module _ {s : State} {r q bits : ℕ} {before chosen sums : List ℤ} (a : MayStepOnce s r q bits before chosen sums) {p : ℕ} (ep : p ≡ s .header .p) where
+module _ {s : State} {r q bits : ℕ} {before sums : List ℤ} (a : MayStepOnce s r q bits before sums) {p : ℕ} (ep : p ≡ s .header .p) where
   abbrev n : ℕ
   n = s .header .n
 
@@ -130,10 +119,10 @@ module _ {s : State} {r q bits : ℕ} {before chosen sums : List ℤ} (a : MaySt
   digits-most i l = digit-most (pow-pos bits) (every-row .rows i l)
 
   -- `new` has what the choice left in the vector being chosen
-  module _ {new : List ℤ} (ec : new ≡ filled (digit-from r q p u (s .z) sums) chosen n) where
+  module _ {new : List ℤ} (ec : new ≡ filled (digit-from r q p u (s .z) sums) (replicate 16 (pos 0)) n) where
     new-is : new ≡ chosen-digits s
     new-is =
-        ec ∙ filled-stepped (a .between .summed) r (state-factor s) p u (s .z) (a .units-are) (a .between .free)
+        ec ∙ filled-stepped (a .between .summed) r (state-factor s) p u (s .z) (a .units-are)
         ∙ rw (ep, a .radix-is, a .bits-are .0, a .between .last) refl
 
     next-limits : KeepsLimits n (radix (s .header .code)) (state-factor s) (s .header .p) (state-unit s) (s .g) (residuals-left s) new
@@ -147,7 +136,7 @@ module _ {s : State} {r q bits : ℕ} {before chosen sums : List ℤ} (a : MaySt
     -- in the rows below n it has the digits chosen, and only these are stored
     pub new-row : (i : ℕ) → i < n → at new i ≡ digit-from r q p u (s .z) sums i
     new-row i l =
-        rw ec (filled-row (digit-from r q p u (s .z) sums) chosen n i l (omega (arith, a .between .free .size, a .may .passes .limits .order-most)))
+        rw ec (filled-row (digit-from r q p u (s .z) sums) (replicate 16 (pos 0)) n i l (omega (arith, a .may .passes .limits .order-most)))
 
     new-stored : stores (s .digits) (λ i. 16 * s .k + i) (digit-from r q p u (s .z) sums) n ≡ digits-stored n (s .k) (s .digits) new
     new-stored = stores-ext _ _ _ _ n (λ i l. sym (new-row i l))
@@ -167,20 +156,20 @@ module _ {s : State} {r q bits : ℕ} {before chosen sums : List ℤ} (a : MaySt
 -- ---- a loop over steps
 
 -- what the arrays hold after j steps
-pub record Reached (s : State) (j : ℕ) (ds z before chosen sums : List ℤ) : Type 0 where
+pub record Reached (s : State) (j : ℕ) (ds z before sums : List ℤ) : Type 0 where
   pub digits : ds ≡ steps s j .digits
   pub residuals : z ≡ steps s j .z
-  pub between : Between (steps s j) before chosen sums
+  pub between : Between (steps s j) before sums
 
 -- none: `sums` is what `first_sums` gave
 pub reached-start : {s : State} {before sums : List ℤ} → PassesLimits s → before ≡ last-digits s → sums ≡ filled (row-dot (s .header .n) (s .g) before) (replicate 16 (pos 0)) (s .header .n)
-    → (length sums ≡ 16) × Reached s 0 (s .digits) (s .z) before (replicate 16 (pos 0)) sums
+    → (length sums ≡ 16) × Reached s 0 (s .digits) (s .z) before sums
 unfolding steps
 reached-start {s} {before} b e f =
     let q = rows-summed {d = before} (replicate 16 (pos 0)) refl (b .limits .order-most) f in
-    (q .0, record { digits = refl; residuals = refl; between = record { last = e; free = vector-zeros (s .header .n); summed = q .1 } })
+    (q .0, record { digits = refl; residuals = refl; between = record { last = e; summed = q .1 } })
 
-module _ {s : State} {made j : ℕ} {ds z before chosen sums : List ℤ} (b : MayStep s made) (l : j < made) (h : Reached s j ds z before chosen sums) where
+module _ {s : State} {made j : ℕ} {ds z before sums : List ℤ} (b : MayStep s made) (l : j < made) (h : Reached s j ds z before sums) where
   abbrev S : State
   S = steps s j
 
@@ -201,7 +190,7 @@ module _ {s : State} {made j : ℕ} {ds z before chosen sums : List ℤ} (b : Ma
 
   -- one more can be made of it
   pub reached-may : (r q bits : ℕ) → r ≡ radix (s .header .code) → q ≡ radix (s .header .code) * state-factor s → (2 ^ bits ≡ state-unit s) × (4 ≤ bits) × (bits ≤ 44)
-      → MayStepOnce now-is r q bits before chosen sums
+      → MayStepOnce now-is r q bits before sums
   reached-may r q bits e o f =
       rw whole
       (record {
@@ -221,19 +210,18 @@ module _ {s : State} {made j : ℕ} {ds z before chosen sums : List ℤ} (b : Ma
       (stepped-digit-past (S .header .n) (radix (S .header .code)) (state-factor S) (S .header .p) (state-unit S) (S .g) (S .z) (last-digits S))
       (omega (arith, left .room, steps-have-room left))
 
-  -- after it the vector chosen is the step before, and that of the step before is free
-  pub reached-next : {ds′ z′ chosen′ sums′ : List ℤ} → Stepped now-is z′ ds′ chosen′ sums′ → Reached s (j + 1) ds′ z′ chosen′ before sums′
+  -- after it the vector chosen is the step before
+  pub reached-next : {ds′ z′ chosen′ sums′ : List ℤ} → Stepped now-is z′ ds′ chosen′ sums′ → Reached s (j + 1) ds′ z′ chosen′ sums′
   unfolding steps one-step
   reached-next {ds′} {z′} {chosen′} {sums′} t = rw add-one (turn (rw whole at t))
     where
-      turn : Stepped S z′ ds′ chosen′ sums′ → Reached s (suc j) ds′ z′ chosen′ before sums′
+      turn : Stepped S z′ ds′ chosen′ sums′ → Reached s (suc j) ds′ z′ chosen′ sums′
       turn q =
           record {
             digits = q .digits;
             residuals = q .residuals;
             between = record {
               last = q .newest ∙ sym copied;
-              free = rw (h .between .last) (vector-flat (S .header .n) (digits-of (S .digits) (S .k)));
               summed = q .summed;
             };
           }

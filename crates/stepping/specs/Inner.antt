@@ -147,11 +147,6 @@ digit-from r q p u z s i = select p u (shifted-by r q z s i)
 abbrev pub residual-from : (r q p u : ℕ) (z s : List ℤ) (i : ℕ) → ℤ
 residual-from r q p u z s i = shifted-by r q z s i -ℤ pos u *ℤ digit-from r q p u z s i
 
--- a vector of n rows in an array of 16: 0 past row n
-pub record Vector (n : ℕ) (v : List ℤ) : Type 0 where
-  pub size : length v ≡ 16
-  pub past : (i : ℕ) → n ≤ i → at v i ≡ pos 0
-
 -- a digit may be chosen in row i: |w| is at most p units and the residual bound more
 pub record MayChooseRow (r q p u : ℕ) (z s : List ℤ) (i : ℕ) : Type 0 where
   pub radix : r ≤ 16
@@ -175,21 +170,19 @@ pub record MayStep (s : State) (made : ℕ) : Type 0 where
   pub room : length (s .digits) ≡ 16 * all-steps
   pub left : s .k + made ≤ state-last s
 
--- between two steps of s: the digits of the step before, a vector free for those to be chosen, and the rows'
--- sums with the step before
-pub record Between (s : State) (before chosen sums : List ℤ) : Type 0 where
+-- between two steps of s: the digits of the step before, and the rows' sums with them
+pub record Between (s : State) (before sums : List ℤ) : Type 0 where
   pub last : before ≡ last-digits s
-  pub free : Vector (s .header .n) chosen
   pub summed : Summed (s .header .n) (s .g) before sums
 
 -- what a step asks: s has a step left, r is its radix, q is r r^s, and its residuals have so many fraction
 -- bits
-pub record MayStepOnce (s : State) (r q bits : ℕ) (before chosen sums : List ℤ) : Type 0 where
+pub record MayStepOnce (s : State) (r q bits : ℕ) (before sums : List ℤ) : Type 0 where
   pub may : MayStep s 1
   pub radix-is : r ≡ radix (s .header .code)
   pub units-are : q ≡ r * state-factor s
   pub bits-are : (2 ^ bits ≡ state-unit s) × (4 ≤ bits) × (bits ≤ 44)
-  pub between : Between s before chosen sums
+  pub between : Between s before sums
 
 -- what it leaves: the residuals z and the digits ds of the state a step further, the vector chosen, and the
 -- rows' sums with it

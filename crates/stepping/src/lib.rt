@@ -63,10 +63,11 @@ fn first_sums<'a>(g: &'a [i64; ENTRIES], d: &'a [i8; ROWS], n: usize, k: usize) 
 }
 
 // The step after the k-th, with each column multiplied by its digit. The vector of the step before and the
-// vector being chosen go in by value, and the one chosen comes back; the caller swaps the two. `sums` comes
-// in with the rows' sums with the step before, whose digits the code need not look at again, and goes out
-// with those of the next step. These are made here, from the vector just chosen, since a copy of it has to
-// wait until the single digits are written.
+// vector being chosen go in by value, and the one chosen comes back; the caller swaps the two. The one being
+// chosen is cleared first: what it held two steps before is no part of this one, and so no step waits for a
+// copy of digits that were just written one by one. `sums` comes in with the rows' sums with the step before,
+// whose digits the code need not look at again, and goes out with those of the next step, from the vector
+// just chosen.
 fn step_by_spans<'a>(
     h: Header,
     scale: usize,
@@ -84,11 +85,12 @@ fn step_by_spans<'a>(
     z: &mut [i64; ROWS],
     digits: &mut [i8; DIGITS],
 ) -> [i8; ROWS]
-    requires { ⌜ MayStepOnce (state-of true h scale k (now g) (now z) (now digits)) r q bits before chosen (now sums) × Starts (h .n) (now g) (now starts) × Ends (h .n) (now g) (now ends) × (length (now sums) ≡ 16) × (now choices ≡ selection-table) ⌝ }
+    requires { ⌜ MayStepOnce (state-of true h scale k (now g) (now z) (now digits)) r q bits before (now sums) × Starts (h .n) (now g) (now starts) × Ends (h .n) (now g) (now ends) × (length (now sums) ≡ 16) × (now choices ≡ selection-table) ⌝ }
     ensures step { λ v. ⌜ Stepped (state-of true h scale k (now (g .entry)) (now (z .entry)) (now (digits .entry))) (now (z .exit)) (now (digits .exit)) v (now (sums .exit)) ⌝ }
     ensures size { λ _. ⌜ length (now (sums .exit)) ≡ 16 ⌝ }
 {
     let n = h.n;
+    chosen = [0i8; ROWS];
     choice::choose(choices, sums, z, &mut chosen, digits, n, k, r, q, bits, h.p);
     spans::column_sums(g, starts, ends, &chosen, n, sums);
     chosen
@@ -161,10 +163,11 @@ fn step_by_signs<'a>(
     z: &mut [i64; ROWS],
     digits: &mut [i8; DIGITS],
 ) -> [i8; ROWS]
-    requires { ⌜ MayStepOnce (state-of true h scale k (now g) (now z) (now digits)) 2 q bits before chosen (now sums) × Columns (h .n) (now g) (now columns) × (h .p ≡ 1) × (now choices ≡ selection-table) ⌝ }
+    requires { ⌜ MayStepOnce (state-of true h scale k (now g) (now z) (now digits)) 2 q bits before (now sums) × Columns (h .n) (now g) (now columns) × (h .p ≡ 1) × (now choices ≡ selection-table) ⌝ }
     ensures { λ v. ⌜ Stepped (state-of true h scale k (now (g .entry)) (now (z .entry)) (now (digits .entry))) (now (z .exit)) (now (digits .exit)) v (now (sums .exit)) ⌝ }
 {
     let n = h.n;
+    chosen = [0i8; ROWS];
     let mut list = [0usize; ROWS];
     let count = choice::choose_and_list(
         choices,

@@ -19,8 +19,8 @@ Inv-loop k digits out₀ n r i₀ out i =
 abbrev μ-loop : tie.MeasureT-loop
 μ-loop k digits out₀ n r i₀ out i = n - i
 
-radix-requires : tie.Need-radix-requires Inv-loop μ-loop
-radix-requires c κs = c .pre .0 .limits .code-most
+radix-by-shift-requires : tie.Need-radix-by-shift-requires Inv-loop μ-loop
+radix-by-shift-requires c κs = c .pre .0 .limits .code-most
 
 loop-holds : tie.Need-loop-holds Inv-loop μ-loop
 loop-holds c = (omega arith, refl, refl)
@@ -28,7 +28,7 @@ loop-holds c = (omega arith, refl, refl)
 reading-requires : tie.Need-reading-requires Inv-loop μ-loop
 reading-requires c κs =
     let r = c .before .before in
-    may-read (r .before .pre .0) _ _ (c .loop-test .taken) (r .radix .ensures)
+    may-read (r .before .pre .0) _ _ (c .loop-test .taken) (r .radix-by-shift .ensures)
 
 mul-t10 : tie.Need-mul-t10 Inv-loop μ-loop
 mul-t10 c = let i = c .before in omega (arith, i .before .before .before .pre .0 .limits .order-most, i .loop-test .taken)
@@ -50,7 +50,7 @@ loop-again c =
     let a = r .before .args in (
       omega arith,
       simp length-set (l .inv .1),
-      replaced-next (a .out .now) (a .h .n) (reading (r .radix .result) (digits-of (a .digits .now)) (a .k)) (l .out) (l .i) _ (i .loop-test .taken) (r .before .pre .1) (l .inv .2)
+      replaced-next (a .out .now) (a .h .n) (reading (r .radix-by-shift .result) (digits-of (a .digits .now)) (a .k)) (l .out) (l .i) _ (i .loop-test .taken) (r .before .pre .1) (l .inv .2)
           (i64-kept _ (c .reading .ok) ∙ c .reading .ensures),
     )
 
@@ -60,7 +60,7 @@ same-length c = c .before .loop .inv .1
 returns : tie.Need-returns Inv-loop μ-loop
 returns c =
     let l = c .before .loop in
-    let r = c .before .before .radix in
+    let r = c .before .before .radix-by-shift in
     let a = c .before .before .before .args in
     rw (r .ensures) at (replaced-all (a .out .now) (a .h .n) (reading (r .result) (digits-of (a .digits .now)) (a .k)) (l .out) (l .i) (omega arith) (l .inv .2))
 
@@ -70,7 +70,7 @@ put-readings-spec =
     (tie.spec
     Inv-loop
     μ-loop
-    radix-requires
+    radix-by-shift-requires
     loop-holds
     reading-requires
     mul-t10

@@ -13,7 +13,7 @@ use Rattle.stepping.proofs.run_by_signs.Tie as tie
 
 abbrev Inv-loop : tie.InvT-loop
 Inv-loop h scale k made choices g z₀ digits₀ n q bits columns before₀ chosen₀ sums₀ j₀ z digits before chosen sums j =
-    (j ≤ made) × Reached (state-of true h scale k g z₀ digits₀) j digits z before chosen sums
+    (j ≤ made) × Reached (state-of true h scale k g z₀ digits₀) j digits z before sums
 
 abbrev μ-loop : tie.MeasureT-loop
 μ-loop h scale k made choices g z₀ digits₀ n q bits columns before₀ chosen₀ sums₀ j₀ z digits before chosen sums j = made - j

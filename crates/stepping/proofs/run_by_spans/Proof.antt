@@ -12,7 +12,7 @@ use Rattle.stepping.proofs.run_by_spans.Tie as tie
 
 abbrev Inv-loop : tie.InvT-loop
 Inv-loop h scale k made choices g z₀ digits₀ n r q bits starts ends before₀ chosen₀ sums₀ j₀ z digits before chosen sums j =
-    (j ≤ made) × (length sums ≡ 16) × Reached (state-of true h scale k g z₀ digits₀) j digits z before chosen sums
+    (j ≤ made) × (length sums ≡ 16) × Reached (state-of true h scale k g z₀ digits₀) j digits z before sums
 
 abbrev μ-loop : tie.MeasureT-loop
 μ-loop h scale k made choices g z₀ digits₀ n r q bits starts ends before₀ chosen₀ sums₀ j₀ z digits before chosen sums j = made - j
