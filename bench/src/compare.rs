@@ -98,21 +98,15 @@ fn both<T: Copy + PartialEq + Debug>(
     Ok((answer, by_plain))
 }
 
-/// The same of a call that writes bytes and counts them.
-fn both_bytes(
+/// The same of a call that counts what it writes.
+fn both_counted<T: Copy + PartialEq + Debug>(
     room: usize,
     random: &mut Random,
-    plain: impl FnOnce(&mut [u8]) -> Answer,
-    library: impl FnOnce(&mut [u8]) -> Answer,
-) -> Result<(Answer, Vec<u8>), String> {
-    both(
-        room,
-        random,
-        |word| word as u8,
-        plain,
-        library,
-        Answer::count,
-    )
+    word: impl Fn(u64) -> T,
+    plain: impl FnOnce(&mut [T]) -> Answer,
+    library: impl FnOnce(&mut [T]) -> Answer,
+) -> Result<(Answer, Vec<T>), String> {
+    both(room, random, word, plain, library, Answer::count)
 }
 
 fn answer_text(answer: Answer) -> String {
@@ -175,13 +169,12 @@ fn running_sums(
     room: usize,
     random: &mut Random,
 ) -> Result<(Answer, Vec<i64>), String> {
-    both(
+    both_counted(
         room,
         random,
         |word| word as i64,
         |lent| Plain::running_sums(frame, budget, lent),
         |lent| Library::running_sums(frame, budget, lent),
-        Answer::count,
     )
     .map_err(|what| format!("em_running_sums, budget {budget}, {what}"))
 }
@@ -192,9 +185,10 @@ fn write_frame(
     room: usize,
     random: &mut Random,
 ) -> Result<(Answer, Vec<u8>), String> {
-    both_bytes(
+    both_counted(
         room,
         random,
+        |word| word as u8,
         |lent| Plain::write_frame(fields, numbers, lent),
         |lent| Library::write_frame(fields, numbers, lent),
     )
@@ -207,9 +201,10 @@ fn write_trace(
     room: usize,
     random: &mut Random,
 ) -> Result<(Answer, Vec<u8>), String> {
-    both_bytes(
+    both_counted(
         room,
         random,
+        |word| word as u8,
         |lent| Plain::write_trace(frame, budget, lent),
         |lent| Library::write_trace(frame, budget, lent),
     )
@@ -221,13 +216,12 @@ fn read_trace(
     room: usize,
     random: &mut Random,
 ) -> Result<(Answer, Vec<i64>), String> {
-    both(
+    both_counted(
         room,
         random,
         |word| word as i64,
         |lent| Plain::read_trace(trace, lent),
         |lent| Library::read_trace(trace, lent),
-        Answer::count,
     )
     .map_err(|what| format!("em_read_trace, {what}"))
 }
@@ -238,9 +232,10 @@ fn rewrite_trace(
     random: &mut Random,
 ) -> Result<(Answer, Vec<u8>), String> {
     let more = random.below(3) as u64;
-    both_bytes(
+    both_counted(
         room,
         random,
+        |word| word as u8,
         |lent| Answer::from(Ok(Plain::rewrite_trace(trace, more, lent))),
         |lent| Answer::from(Ok(Library::rewrite_trace(trace, more, lent))),
     )
