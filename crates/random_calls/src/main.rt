@@ -3,9 +3,10 @@
 // contract says is looked at again, word by word: a refused advance makes 0 steps and gives back every word
 // of the state; an accepted one counts the growth of k, and keeps the header, the scale, the matrix, the
 // digits of the steps before and of the steps still to come, and all that stands past the n-th row; a
-// refused readings keeps every word of the list, and an accepted one keeps the words past the n-th. It
-// prints how many calls of advance and of readings there were for each refusal number, 0 for the accepted
-// ones, and `ok`; at a difference it prints `wrong`.
+// refused readings keeps every word of the list, and an accepted one keeps the words past the n-th; so do the
+// running sums, with the words that they count. It prints how many calls of advance, of readings and of the
+// running sums there were for each refusal number, 0 for the accepted ones, and `ok`; at a difference it prints
+// `wrong`.
 //
 // Each turn makes the steps of these two jobs as well, by load, advance and readings, by evaluate and by
 // perform, which are to give the same words.
@@ -302,6 +303,26 @@ fn readings_right(
     same_from(before, list, s.header.n)
 }
 
+// A call for the running sums into the first `room` words of a list, and whether it keeps the words that it
+// must: all that the list had `before`, of which it counts none, or those past the words that it counts.
+fn sums_right(
+    s: State,
+    before: &[i64],
+    list: &mut [i64],
+    room: usize,
+    tallies: &mut [u64; TALLIES],
+) -> bool {
+    if list.len() < room {
+        return false;
+    }
+    let w = emethod::running_sums(s, &mut list[0..room]);
+    tally(tallies, w.refusal);
+    if w.refusal != 0 {
+        return w.count == 0 && same_from(before, list, 0);
+    }
+    same_from(before, list, w.count)
+}
+
 // A state from the seed: now and then the idle one, one of any numbers, or a job made from case A or E.
 fn pick(seed: u64) -> State {
     if seed % 64 == 0 {
@@ -334,28 +355,40 @@ fn ways_agree(frame: &[u8], first: u64, second: u64) -> bool {
         && agrees(p, s.scale, s.k, &called, &performed)
 }
 
-// One state, an advance and a readings call, and the three ways; whether all are right. The list for the
-// readings has the words of some random matrix.
-fn turn(seed: u64, advances: &mut [u64; TALLIES], reads: &mut [u64; TALLIES]) -> bool {
+// One state, an advance, a readings call and one for the running sums, and the three ways; whether all are
+// right. The lists lent have the words of some random matrix.
+fn turn(
+    seed: u64,
+    advances: &mut [u64; TALLIES],
+    reads: &mut [u64; TALLIES],
+    sums: &mut [u64; TALLIES],
+) -> bool {
     let s = pick(seed);
     let a = next(seed ^ 1);
     let b = next(a);
     let other = random_state(b);
     let before = other.g;
     let mut list = before;
+    let mut words = before;
     ways_agree(b"\x01\x10\x44\x0c\x32\x00", a % 7, b % 7)
         && ways_agree(b"\x01\x10\x44\x0c\x92\x00", a % 7, b % 7)
         && advance_right(s, random_budget(a), advances)
         && readings_right(s, &before, &mut list, ((b >> 5) % 21) as usize, reads)
+        && sums_right(s, &before, &mut words, ((b >> 10) % 9) as usize, sums)
 }
 
 // As many turns as asked for, and whether all are right.
-fn turns(most: usize, advances: &mut [u64; TALLIES], reads: &mut [u64; TALLIES]) -> bool {
+fn turns(
+    most: usize,
+    advances: &mut [u64; TALLIES],
+    reads: &mut [u64; TALLIES],
+    sums: &mut [u64; TALLIES],
+) -> bool {
     let mut x: u64 = 88172645463325252;
     let mut i: usize = 0;
     while i < most {
         x = next(x);
-        if !turn(x >> 3, advances, reads) {
+        if !turn(x >> 3, advances, reads, sums) {
             return false;
         }
         i += 1;
@@ -363,14 +396,21 @@ fn turns(most: usize, advances: &mut [u64; TALLIES], reads: &mut [u64; TALLIES])
     true
 }
 
-// A line: a refusal number, and how many calls of advance and of readings gave it.
-fn print_line(refusal: usize, advances: &[u64; TALLIES], reads: &[u64; TALLIES]) {
+// A line: a refusal number, and how many calls of advance, of readings and of the running sums gave it.
+fn print_line(
+    refusal: usize,
+    advances: &[u64; TALLIES],
+    reads: &[u64; TALLIES],
+    sums: &[u64; TALLIES],
+) {
     if refusal < TALLIES {
         io::print_decimal(1, refusal as u64);
         io::write_all(1, b" ");
         io::print_decimal(1, advances[refusal]);
         io::write_all(1, b" ");
         io::print_decimal(1, reads[refusal]);
+        io::write_all(1, b" ");
+        io::print_decimal(1, sums[refusal]);
         io::write_all(1, b"\n");
     }
 }
@@ -378,15 +418,16 @@ fn print_line(refusal: usize, advances: &[u64; TALLIES], reads: &[u64; TALLIES])
 fn main() {
     let mut advances = [0u64; TALLIES];
     let mut reads = [0u64; TALLIES];
-    if !turns(4000, &mut advances, &mut reads) {
+    let mut sums = [0u64; TALLIES];
+    if !turns(4000, &mut advances, &mut reads, &mut sums) {
         io::write_all(1, b"wrong\n");
         return;
     }
-    print_line(0, &advances, &reads);
-    print_line(20, &advances, &reads);
-    print_line(21, &advances, &reads);
-    print_line(22, &advances, &reads);
-    print_line(23, &advances, &reads);
-    print_line(24, &advances, &reads);
+    print_line(0, &advances, &reads, &sums);
+    print_line(20, &advances, &reads, &sums);
+    print_line(21, &advances, &reads, &sums);
+    print_line(22, &advances, &reads, &sums);
+    print_line(23, &advances, &reads, &sums);
+    print_line(24, &advances, &reads, &sums);
     io::write_all(1, b"ok\n");
 }

@@ -5,10 +5,10 @@ use Rattle.random_calls.proofs.turns.Statement.{statement}
 use Rattle.random_calls.proofs.turns.Tie as tie
 
 abbrev Inv-loop : tie.InvT-loop
-Inv-loop most advances₀ reads₀ x₀ i₀ advances reads x i = i ≤ most
+Inv-loop most advances₀ reads₀ sums₀ x₀ i₀ advances reads sums x i = i ≤ most
 
 abbrev μ-loop : tie.MeasureT-loop
-μ-loop most advances₀ reads₀ x₀ i₀ advances reads x i = most - i
+μ-loop most advances₀ reads₀ sums₀ x₀ i₀ advances reads sums x i = most - i
 
 pub turns-spec : {M : Type 1} → statement M
 turns-spec =
