@@ -1,6 +1,6 @@
 // One column of the matrix added to the rows' sums, with its digit of the step before (document 02, request
-// 5). Steps add one column after the other so, and so does the call that shows it. A column whose digit is 0
-// is skipped: its rows keep their sums.
+// 5). Steps add one column after the other so, but for the full columns of radix 2, and so does the call that
+// shows it. A column whose digit is 0 is skipped: its rows keep their sums.
 ghost use mathlib.Core.Path.{_≡_};
 ghost use Prim.Native.Nat.{_+_, _-_, _^_};
 ghost use lib.IntN.{_+ℤ_, _*ℤ_};

@@ -5,8 +5,8 @@
 // column whose last digit is 0 is skipped, so after 0 steps nothing is written.
 //
 // It is refused as readings are, by 20, 24 and 23, and asks nothing of its caller. With a refusal all words
-// stay as they were, and so do the words past those written. The columns are added by the function that steps
-// add them by, `column::add_column`.
+// stay as they were, and so do the words past those written. The columns are added by `column::add_column`,
+// by which steps add them too.
 ghost use mathlib.Core.Path.{_≡_};
 ghost use mathlib.Core.List.{_∷_, _++_};
 ghost use Prim.Native.Nat.{_+_, _≤_};
