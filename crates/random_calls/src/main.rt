@@ -5,8 +5,8 @@
 // digits of the steps before and of the steps still to come, and all that stands past the n-th row; a
 // refused readings keeps every word of the list, and an accepted one keeps the words past the n-th; so do the
 // running sums, with the words that they count. It prints how many calls of advance, of readings and of the
-// running sums there were for each refusal number, 0 for the accepted ones, and `ok`; at a difference it prints
-// `wrong`.
+// running sums there were for each refusal number, 0 for the accepted ones, and `ok`; at a difference it
+// prints `wrong`.
 //
 // Each turn makes the steps of these two jobs as well, by load, advance and readings, by evaluate and by
 // perform, which are to give the same words.
