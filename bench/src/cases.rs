@@ -90,6 +90,24 @@ pub fn sums_text<S: Side>(frame: &[u8]) -> String {
     text
 }
 
+/// The additions of each step of a frame's job in turn, by the calls of one side: those of its steps up to one
+/// less those of the steps before.
+pub fn additions_text<S: Side>(frame: &[u8]) -> String {
+    let mut readings = [0; 16];
+    let all = S::evaluate(frame, u64::MAX, &mut readings);
+    if all.refusal() != 0 {
+        return refused_text(all);
+    }
+    let mut so_far =
+        |steps: usize| S::evaluate(frame, steps as u64, &mut readings).additions() as i64;
+    let line: Vec<i64> = (0..all.count())
+        .map(|steps| so_far(steps + 1) - so_far(steps))
+        .collect();
+    let mut text = String::new();
+    push_line(&mut text, &line);
+    text
+}
+
 /// What the vectors show for a trace, by the calls of one side.
 pub fn trace_text<S: Side>(trace: &[u8]) -> String {
     let mut words = [0; 967];
@@ -257,6 +275,23 @@ pub fn run<S: Side>() -> Result<usize, String> {
         sums(&curve(5, 9), 1, 7) == (8, 0, [7; 7]),
     )?;
 
+    // G of A has one entry, 3 in row 1 and column 2, and the digits of row 2 are 1, 0, 0, 0, 0: one addition, in
+    // step 2. In E with x 3 they are 1, -1, 0, 0, 0, 0: one each in steps 2 and 3.
+    let additions = |frame: &[u8], budget, room: usize| {
+        let answer = S::evaluate(frame, budget, &mut [0; 2][..room]);
+        (answer.refusal(), answer.count(), answer.additions())
+    };
+    case("additions, no step", additions(&A_3, 0, 2) == (0, 0, 0))?;
+    case("additions, 1 step", additions(&A_3, 1, 2) == (0, 1, 0))?;
+    case("additions, 2 steps", additions(&A_3, 2, 2) == (0, 2, 1))?;
+    case("additions, all", additions(&A_3, 9, 2) == (0, 5, 1))?;
+    case("additions, E", additions(&e, 9, 2) == (0, 6, 2))?;
+    case("additions, no room", additions(&A_3, 9, 1) == (23, 0, 0))?;
+    case(
+        "additions, heavy row",
+        additions(&curve(5, 9), 9, 2) == (8, 0, 0),
+    )?;
+
     // Traces of radix 2 and order 1, all digits 0.
     let traced = |m, k| {
         let trace = pack_trace(&fields(0, 2, 1, 1, m), k, &vec![0; k]);
@@ -271,12 +306,15 @@ pub fn run<S: Side>() -> Result<usize, String> {
 }
 
 /// Runs one side over a folder of vectors: each `.bin` must give exactly its `.txt`, and where there is a
-/// `columns.txt`, the running sums of the frames must be those.
+/// `columns.txt` or an `additions.txt`, the running sums or the additions of the frames must be those.
 pub fn run_vectors<S: Side>(folder: &Path) -> Result<(), String> {
     run_file(S::NAME, folder, "frames", "frames", frame_text::<S>)?;
     run_file(S::NAME, folder, "traces", "traces", trace_text::<S>)?;
     if folder.join("columns.txt").exists() {
         run_file(S::NAME, folder, "frames", "columns", sums_text::<S>)?;
+    }
+    if folder.join("additions.txt").exists() {
+        run_file(S::NAME, folder, "frames", "additions", additions_text::<S>)?;
     }
     Ok(())
 }

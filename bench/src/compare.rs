@@ -112,7 +112,8 @@ fn both_counted<T: Copy + PartialEq + Debug>(
 fn answer_text(answer: Answer) -> String {
     let (refusal, row, count) = (answer.refusal(), answer.row(), answer.count());
     format!(
-        "refusal {refusal} row {row} count {count} scale {}",
+        "refusal {refusal} row {row} count {count} additions {} scale {}",
+        answer.additions(),
         answer.scale()
     )
 }

@@ -6,7 +6,10 @@ use std::process::Command;
 
 /// Each program below the repository's root, and what it has to print.
 const PROGRAMS: [(&str, &str); 2] = [
-    ("crates/emethod_c/example.c", "0.65625 0.5\n"),
+    (
+        "crates/emethod_c/example.c",
+        "0.65625 0.5\n6 steps, 2 additions\n",
+    ),
     ("bench/null.c", "1 1 23 12 23 1 23 1 23 1 23\n"),
 ];
 

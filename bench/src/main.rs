@@ -21,7 +21,7 @@ use sides::{Library, Plain};
 const USAGE: &str = "emethod-bench                   cases, comparison, measurements
 emethod-bench quick             the same in a few seconds
 emethod-bench measure           the measurements alone
-emethod-bench vectors FOLDER    frames.bin and traces.bin against their .txt, and against columns.txt";
+emethod-bench vectors FOLDER    frames.bin and traces.bin against their .txt, columns.txt and additions.txt";
 
 /// Every run makes the same random numbers.
 const SEED: u64 = 0x00E5_1975_0000_0001;

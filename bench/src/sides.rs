@@ -4,7 +4,8 @@
 use crate::plain::calls::{self, Scaled};
 use crate::plain::{write_frame, Fields, Refusal};
 
-/// An answer that carries a refusal, a row, a count and a scale: 8, 8, 40 and 8 bits from the lowest on.
+/// An answer that carries a refusal, a row, a count, additions and a scale: 8, 8, 24, 16 and 8 bits from the
+/// lowest on.
 #[derive(Clone, Copy, Debug, PartialEq, Eq)]
 pub struct Answer(pub u64);
 
@@ -18,7 +19,11 @@ impl Answer {
     }
 
     pub fn count(self) -> usize {
-        (self.0 / 65536 % (1 << 40)) as usize
+        (self.0 / 65536 % (1 << 24)) as usize
+    }
+
+    pub fn additions(self) -> usize {
+        (self.0 >> 40) as usize % 65536
     }
 
     pub fn scale(self) -> usize {
@@ -29,16 +34,26 @@ impl Answer {
 impl From<Result<Scaled, Refusal>> for Answer {
     fn from(result: Result<Scaled, Refusal>) -> Answer {
         Answer(match result {
-            Ok(Scaled { count, scale }) => 65536 * count as u64 + ((scale as u64) << 56),
+            Ok(Scaled {
+                count,
+                additions,
+                scale,
+            }) => 65536 * count as u64 + ((additions as u64) << 40) + ((scale as u64) << 56),
             Err(refusal) => refusal.number() + 256 * refusal.row(),
         })
     }
 }
 
-/// Of calls that give no scale.
+/// Of calls that give no additions and no scale.
 impl From<Result<usize, Refusal>> for Answer {
     fn from(result: Result<usize, Refusal>) -> Answer {
-        result.map(|count| Scaled { count, scale: 0 }).into()
+        result
+            .map(|count| Scaled {
+                count,
+                additions: 0,
+                scale: 0,
+            })
+            .into()
     }
 }
 

@@ -2,15 +2,17 @@
  * `rt staticlib emethod_c` writes. docs/FORMAT.md describes frames, traces and every refusal in full;
  * example.c beside this file packs a frame, evaluates it and prints its values.
  *
- * Every call takes numbers and lent memory, and answers one number that carries four:
+ * Every call takes numbers and lent memory, and answers one number that carries five:
  *
- *     answer = refusal + 256 * row + 65536 * count + 2^56 * scale
+ *     answer = refusal + 256 * row + 65536 * count + 2^40 * additions + 2^56 * scale
  *
- * refusal   0, or why the call was refused: one of EM_REFUSED_..
- * row       with EM_REFUSED_HEAVY the first such row, from 1; else 0
- * count     what each call says below, less than 2^40; 0 when refused
- * scale     from em_check_frame and em_evaluate the frame's scale s, told below; 0 when refused, and from the
- *           other calls
+ * refusal     0, or why the call was refused: one of EM_REFUSED_..
+ * row         with EM_REFUSED_HEAVY the first such row, from 1; else 0
+ * count       what each call says below, less than 2^24; 0 when refused
+ * additions   from em_evaluate the additions that the steps cost, told below, less than 2^16; 0 when refused,
+ *             and from the other calls
+ * scale       from em_check_frame and em_evaluate the frame's scale s, told below; 0 when refused, and from
+ *             the other calls
  *
  * What cannot be done is refused, whatever the numbers and bytes are, and a refusal changes no lent memory.
  * Memory past what a call writes keeps its values too. No call allocates, and none keeps anything: what is
@@ -33,7 +35,8 @@ extern "C" {
 
 #define EM_REFUSAL(answer) ((unsigned)((answer) % 256))
 #define EM_ROW(answer) ((unsigned)((answer) / 256 % 256))
-#define EM_COUNT(answer) ((size_t)((answer) / 65536 % ((uint64_t)1 << 40)))
+#define EM_COUNT(answer) ((size_t)((answer) / 65536 % 16777216))
+#define EM_ADDITIONS(answer) ((unsigned)((answer) >> 40 & 65535))
 #define EM_SCALE(answer) ((unsigned)((answer) >> 56))
 
 /* Room that is always enough, in elements. */
@@ -88,8 +91,11 @@ uint64_t em_check_frame(const uint8_t *frame, size_t length);
 /* Loads a frame, makes as many of its m + 1 + s steps as the budget allows, and writes n readings, row by
  * row. count: the steps made, k. scale: s. The reading Y of a row stands for Y / r^k * r^s: in every solution
  * of all rows this row's value is at most p * r^s / ((r - 1) * r^k) away from it, and after all steps less
- * than r^-m. Row 1 of a curve is the curve's value at x. Refused by 1 to 8, 15, 23. A budget of 0 is not
- * refused by 22: k is 0, and so is each reading. */
+ * than r^-m. Row 1 of a curve is the curve's value at x. additions: over the steps, the pairs of a row and a
+ * column where the entry of I - A and that column's digit of the step before are both other than 0; at most
+ * k - 1 times the entries other than 0, so (k - 1) * (n - 1) for a polynomial, 2 * (k - 1) * (n - 1) for a
+ * rational curve. Refused by 1 to 8, 15, 23. A budget of 0 is not refused by 22: k is 0, and so is each
+ * reading. */
 uint64_t em_evaluate(const uint8_t *frame, size_t length, uint64_t budget, int64_t *readings, size_t room);
 
 /* Loads a frame, makes as many of its m + 1 + s steps as the budget allows, and writes in which order the next

@@ -2,11 +2,12 @@
 
 use std::hint::black_box;
 
-use super::{read_trace, read_trace_by_eights, write_trace, Fields, Record, Refusal, State};
+use super::{read_trace, read_trace_by_eights, write_trace, Fields, Made, Record, Refusal, State};
 
-/// A count, and the scale that the frame has.
+/// A count, the additions that it cost, and the scale that the frame has.
 pub struct Scaled {
     pub count: usize,
+    pub additions: usize,
     pub scale: usize,
 }
 
@@ -15,17 +16,22 @@ pub fn check_frame(frame: &[u8]) -> Result<Scaled, Refusal> {
     match State::load(frame)? {
         State::Job(job) => Ok(Scaled {
             count: job.fields.count(),
+            additions: 0,
             scale: job.scale,
         }),
         State::Idle => Err(Refusal::Idle),
     }
 }
 
-/// Loads a frame, makes steps and gives the readings. Counts the steps.
+/// Loads a frame, makes steps and gives the readings. Counts the steps and their additions.
 pub fn evaluate(frame: &[u8], budget: u64, readings: &mut [i64]) -> Result<Scaled, Refusal> {
-    let (state, count) = load_and_advance(frame, budget)?;
+    let (state, made) = load_and_advance(frame, budget)?;
     let scale = state.readings(readings)?;
-    Ok(Scaled { count, scale })
+    Ok(Scaled {
+        count: made.steps,
+        additions: made.additions,
+        scale,
+    })
 }
 
 /// Loads a frame, makes steps and writes the trace. Gives its bytes.
@@ -41,13 +47,13 @@ pub fn running_sums(frame: &[u8], budget: u64, words: &mut [i64]) -> Result<usiz
 }
 
 /// A budget of 0 makes no step; here that is no refusal.
-fn load_and_advance(frame: &[u8], budget: u64) -> Result<(State, usize), Refusal> {
+fn load_and_advance(frame: &[u8], budget: u64) -> Result<(State, Made), Refusal> {
     let mut state = State::load(frame)?;
-    let steps = match budget {
-        0 => 0,
+    let made = match budget {
+        0 => Made::default(),
         _ => state.advance(budget)?,
     };
-    Ok((state, steps))
+    Ok((state, made))
 }
 
 /// Reads a trace into words: the fields, k and the digits. Gives how many.

@@ -12,7 +12,7 @@ mod trace;
 
 pub use fields::Fields;
 pub use frame::{read_frame, write_frame};
-pub use state::State;
+pub use state::{Made, State};
 pub use trace::{read_trace, read_trace_by_eights, write_trace, Record};
 
 /// Why a call did nothing. Rows count from 1.

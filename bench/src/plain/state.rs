@@ -27,6 +27,13 @@ pub struct Job {
     pub digits: Vec<i8>,
 }
 
+/// What an advance made: steps, and the additions that they cost.
+#[derive(Clone, Copy, Debug, Default, PartialEq, Eq)]
+pub struct Made {
+    pub steps: usize,
+    pub additions: usize,
+}
+
 impl State {
     /// A new state with 0 steps made. Refused by 1 to 8, 15; the state is then `State::default()`.
     pub fn load(frame: &[u8]) -> Result<State, Refusal> {
@@ -41,8 +48,9 @@ impl State {
         }))
     }
 
-    /// Makes as many steps as the budget allows and as are left, and counts them. Refused by 20, 24, 22, 21.
-    pub fn advance(&mut self, budget: u64) -> Result<usize, Refusal> {
+    /// Makes as many steps as the budget allows and as are left, and counts them and their additions. Refused by
+    /// 20, 24, 22, 21.
+    pub fn advance(&mut self, budget: u64) -> Result<Made, Refusal> {
         self.job()?;
         let State::Job(job) = self else {
             return Err(Refusal::Idle);
@@ -55,8 +63,8 @@ impl State {
             return Err(Refusal::AllStepsMade);
         }
         let steps = budget.min(left as u64) as usize;
-        job.make_steps(steps);
-        Ok(steps)
+        let additions = job.make_steps(steps);
+        Ok(Made { steps, additions })
     }
 
     /// Puts a reading for each row into the list and gives the scale: a reading divided by r^k and multiplied
@@ -157,7 +165,9 @@ impl Job {
             && usize::from(digit.unwrap_or(0)) <= p
     }
 
-    fn make_steps(&mut self, steps: usize) {
+    /// Gives the additions: for each step the pairs of a row and a column where the entry and the column's digit
+    /// of the step before are both other than 0.
+    fn make_steps(&mut self, steps: usize) -> usize {
         let n = self.fields.n;
         let r = self.fields.radix();
         // What a sum over 2^f is multiplied by to be one over 2^f × r^scale.
@@ -169,7 +179,17 @@ impl Job {
         if let Some(last) = self.digits.chunks_exact(n).last() {
             before[..n].copy_from_slice(last);
         }
+        // How many entries of each column are other than 0: what a digit other than 0 costs in the next step.
+        let mut entries = [0; MAX_ORDER];
+        for row in self.g.chunks_exact(n) {
+            for (count, &g) in entries.iter_mut().zip(row) {
+                *count += usize::from(g != 0);
+            }
+        }
+        let mut additions = 0;
         for _ in 0..steps {
+            let added = entries.iter().zip(&*before);
+            additions += added.map(|(e, &d)| e * usize::from(d != 0)).sum::<usize>();
             let rows = self.g.chunks_exact(n).zip(&mut self.z).zip(&mut *chosen);
             for ((row, z), digit) in rows {
                 let products = row.iter().zip(&*before).map(|(g, &d)| g * i64::from(d));
@@ -181,6 +201,7 @@ impl Job {
             self.digits.extend_from_slice(&chosen[..n]);
             swap(&mut before, &mut chosen);
         }
+        additions
     }
 }
 
@@ -211,6 +232,10 @@ mod tests {
         }
     }
 
+    fn steps(state: &mut State, budget: u64) -> Result<usize, Refusal> {
+        state.advance(budget).map(|made| made.steps)
+    }
+
     #[test]
     fn idle_comes_first() {
         let mut idle = State::default();
@@ -227,8 +252,8 @@ mod tests {
         assert_eq!(state.readings(&mut list), Ok(0));
         assert_eq!(list, [0, 0, 7]);
         assert_eq!(state.advance(0), Err(Refusal::NoBudget));
-        assert_eq!(state.advance(3), Ok(3));
-        assert_eq!(state.advance(3), Ok(2));
+        assert_eq!(steps(&mut state, 3), Ok(3));
+        assert_eq!(steps(&mut state, 3), Ok(2));
         assert_eq!(state.advance(3), Err(Refusal::AllStepsMade));
         assert_eq!(state.advance(0), Err(Refusal::NoBudget));
         assert_eq!(state.readings(&mut list[..1]), Err(Refusal::NoRoom));
@@ -244,21 +269,45 @@ mod tests {
         // After 0 steps nothing is written, whatever the room.
         assert_eq!(state.running_sums(&mut []), Ok(0));
         // The digits are 0 and 1: column 2, with 3 in row 1.
-        assert_eq!(state.advance(1), Ok(1));
+        assert_eq!(steps(&mut state, 1), Ok(1));
         assert_eq!(state.running_sums(&mut list[..2]), Err(Refusal::NoRoom));
         assert_eq!(list, [7, 7, 7, 7]);
         assert_eq!(state.running_sums(&mut list), Ok(3));
         assert_eq!(list, [2, 3, 0, 7]);
         // They are 1 and 0: column 1, which has no entry.
-        assert_eq!(state.advance(1), Ok(1));
+        assert_eq!(steps(&mut state, 1), Ok(1));
         assert_eq!(state.running_sums(&mut list), Ok(3));
         assert_eq!(list, [1, 0, 0, 7]);
         // At scale 1 the unit is the frame's too. The digits are 1 and 1.
         let mut state = State::load(&E).unwrap();
         let mut list = [7; 7];
-        assert_eq!(state.advance(1), Ok(1));
+        assert_eq!(steps(&mut state, 1), Ok(1));
         assert_eq!(state.running_sums(&mut list), Ok(6));
         assert_eq!(list, [1, 0, 0, 2, 3, 0, 7]);
+    }
+
+    #[test]
+    fn additions_by_pairs() {
+        for frame in [&A[..], &C[..], &E[..]] {
+            let mut state = State::load(frame).unwrap();
+            // One step after the other, and by hand from the digits before it.
+            let mut sum = 0;
+            while let Ok(made) = state.advance(1) {
+                let job = state.job().unwrap();
+                let n = job.fields.n;
+                let steps: Vec<&[i8]> = job.digits.chunks_exact(n).collect();
+                let pairs = match steps.len() {
+                    1 => 0,
+                    k => (0..n * n)
+                        .filter(|&at| job.g[at] != 0 && steps[k - 2][at % n] != 0)
+                        .count(),
+                };
+                assert_eq!((made.steps, made.additions), (1, pairs));
+                sum += pairs;
+            }
+            let all = State::load(frame).unwrap().advance(u64::MAX).unwrap();
+            assert_eq!(all.additions, sum);
+        }
     }
 
     #[test]
@@ -266,8 +315,8 @@ mod tests {
         let mut state = State::load(&E).unwrap();
         let mut list = [7; 3];
         assert_eq!(state.job().unwrap().z, [9, 8]);
-        assert_eq!(state.advance(4), Ok(4));
-        assert_eq!(state.advance(4), Ok(2));
+        assert_eq!(steps(&mut state, 4), Ok(4));
+        assert_eq!(steps(&mut state, 4), Ok(2));
         assert_eq!(state.advance(4), Err(Refusal::AllStepsMade));
         // 21 / 2^6 × 2^1 is 21/32, the value itself.
         assert_eq!(state.readings(&mut list), Ok(1));
@@ -279,9 +328,9 @@ mod tests {
     #[test]
     fn steps_go_on_after_no_rest_is_left() {
         let mut state = State::load(&C).unwrap();
-        assert_eq!(state.advance(1), Ok(1));
+        assert_eq!(steps(&mut state, 1), Ok(1));
         assert_eq!(state.job().unwrap().z, [0]);
-        assert_eq!(state.advance(u64::MAX), Ok(4));
+        assert_eq!(steps(&mut state, u64::MAX), Ok(4));
         assert_eq!(state.job().unwrap().digits, [1, 0, 1, 0, 0]);
     }
 

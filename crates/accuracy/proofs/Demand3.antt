@@ -17,6 +17,8 @@ use Rattle.job.specs.Kind.{kind-of}
 use Rattle.job.proofs.Limits.{radix-least, unit-least, inner-least, digit-positive, last-small}
 use Rattle.job.specs.Rules.{last-step, scale-factor, inner-unit, bound-over, bound-under}
 use Rattle.system.specs.System.{matrix-of, right-side-of}
+use Rattle.additions.specs.Additions.{entries, most-entries}
+use Rattle.additions.proofs.Theorems.{additions-most, entries-most}
 use Rattle.scale.specs.Scale.{job-scale}
 use Rattle.job.specs.declared.Header.{Header}
 use Rattle.frame.specs.Frame.{frame-refusal, frame-numbers}
@@ -24,7 +26,7 @@ use Rattle.header.specs.Header.{header-of}
 use Rattle.frame.proofs.Valid.{accepted-frame}
 use Rattle.frame.proofs.Theorems.{frame-scale}
 use Rattle.frame.specs.Theorems.{ValidJob, FrameScaled}
-use Rattle.recurrence.specs.Recurrence.{select, LightRows, Solves, reading}
+use Rattle.recurrence.specs.Recurrence.{select, digit, LightRows, Solves, reading}
 use Rattle.recurrence.proofs.Theorems.{steps-run, identity, select-distance, short}
 use Rattle.curve.proofs.Value.{kind-value}
 use Rattle.state.specs.State.{digits-of, fresh}
@@ -37,8 +39,9 @@ use Rattle.evaluator.proofs.Kept.{loaded-passes}
 use Rattle.evaluator.proofs.Theorems.{refused-readings}
 use Rattle.stepping.proofs.Steps.{steps-header, steps-scale, steps-k}
 use Rattle.stepping.proofs.Follow.{fresh-follows, follows-steps}
-use Rattle.accuracy.specs.Accuracy.{Call, budgets, after, DigitCount, Accurate, EveryFrameAccurate}
-use Rattle.accuracy.proofs.Runs.{smaller-within, run-is}
+use Rattle.stepping.proofs.Additions.{follows-additions}
+use Rattle.accuracy.specs.Accuracy.{Call, budgets, job-additions, after, additions-made, DigitCount, Accurate, EveryFrameAccurate}
+use Rattle.accuracy.proofs.Runs.{smaller-within, run-all, counted-all}
 
 -- ---- laws over plain numbers
 
@@ -154,15 +157,13 @@ module _ (frame : List ℕ) (ok : frame-refusal frame ≡ 0) where
   abbrev at-step : ℕ → State
   at-step j = steps (fresh h v) j
 
-  loaded-is : loaded frame .state ≡ at-step 0
-  unfolding loaded steps
+  loaded-is : loaded frame .state ≡ fresh h v
+  unfolding loaded
   loaded-is = rw ok
 
   run-to : (calls : List Call) → after frame calls ≡ at-step (smaller (last-step h s) (budgets calls))
   unfolding fresh
-  run-to calls =
-      let e : 0 + budgets calls ≡ budgets calls = omega arith in
-      rw (loaded-is, ← e) (run-is (fresh h v) refl (loaded-passes frame ok) 0 calls (omega arith))
+  run-to calls = rw loaded-is (run-all (fresh h v) refl (loaded-passes frame ok) calls)
 
   rows : LightRows n r (h .p) (inner-unit h s) bound-over bound-under inner
   rows = record { rows = λ i l. light-row-finer h s (G i) limits (accepted .light i l) }
@@ -179,6 +180,22 @@ module _ (frame : List ℕ) (ok : frame-refusal frame ≡ 0) where
   pub counted : DigitCount frame (reading r (job-digit h s G B) (last-step h s))
   counted N D some exact i c =
       nearer r (h .p) (h .m) s D _ (radix-least h limits) (limits .digit-most) some (near-steps (last-step h s) N D exact i c)
+
+  -- the additions that calls count are those of the steps that the recurrence makes
+  counts-to : (calls : List Call) → additions-made frame calls ≡ job-additions frame (smaller (last-step h s) (budgets calls))
+  unfolding fresh
+  counts-to calls =
+      rw loaded-is (counted-all (fresh h v) refl (loaded-passes frame ok) calls)
+      ∙ follows-additions G B (fresh h v) _ (limits .order-most) refl (omega (arith, smaller-within (last-step h s) (budgets calls), last-small h s (scaled .limits)))
+      (fresh-follows h v (limits .order-most))
+
+  -- and these have at most so many: before the first step the digits are 0
+  steps-most : (k : ℕ) → job-additions frame k ≤ (k - 1) * entries n G
+  unfolding digit
+  steps-most k = additions-most n G (job-digit h s G B) k (λ i l. refl)
+
+  steps-most-by-kind : (k : ℕ) → job-additions frame k ≤ (k - 1) * most-entries (kind-of (h .kind)) n
+  steps-most-by-kind k = omega (arith, steps-most k, mul-le-mul-left (k - 1) (entries-most (kind-of (h .kind)) n (unit h) v))
 
   -- what the j-th state holds
   module _ (j : ℕ) (few-j : j ≤ last-step h s) where
@@ -220,6 +237,9 @@ module _ (frame : List ℕ) (ok : frame-refusal frame ≡ 0) where
         steps-made = rw (run-to calls) (k-is j few-j);
         digits = λ t i a b c. rw (run-to calls) (held-digits G B (at-step j) h s j (header-is j few-j) (scale-is j few-j) (k-is j few-j) (holds j few-j) t i (rw (run-to calls, k-is j few-j) at b) c);
         later-digits = λ t i a b c. rw (run-to calls) (held-later G B (at-step j) h s j (header-is j few-j) (scale-is j few-j) (k-is j few-j) (holds j few-j) t i (rw (run-to calls, k-is j few-j) at a) b c);
+        additions-counted = rw (run-to calls, k-is j few-j) (counts-to calls);
+        additions-most = rw (run-to calls, k-is j few-j, counts-to calls) (steps-most j);
+        additions-by-kind = rw (run-to calls, k-is j few-j, counts-to calls) (steps-most-by-kind j);
         scale-held = rw (run-to calls) (scale-is j few-j);
         near = λ k a N D d exact i c. rw (run-to calls, held-reading G B (at-step j) h s j (header-is j few-j) (scale-is j few-j) (k-is j few-j) (holds j few-j) k i (rw (run-to calls, k-is j few-j) at a) c)
             (near-steps k N D exact i c);

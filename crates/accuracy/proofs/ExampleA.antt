@@ -12,13 +12,14 @@ use Rattle.bitfields.specs.Twos.{decode}
 use Rattle.system.specs.Rows.{first-row-from}
 use Rattle.system.specs.System.{curve-entry, matrix, right-side}
 use Rattle.frame.specs.Frame.{frame-checks, frame-refusal}
-use Rattle.stepping.specs.Steps.{stepped-digits, stepped-residuals, steps, one-step}
+use Rattle.additions.specs.Additions.{step-additions}
+use Rattle.stepping.specs.Steps.{stepped-digits, stepped-residuals, steps, one-step, steps-additions}
 use Rattle.recurrence.specs.Recurrence.{shifted, next-digit, next-residual, digit, residual, reading, select, rounded, estimate, cut-down, digit-size}
 use Rattle.state.specs.State.{beyond, fresh, breaks-limit}
 use Rattle.evaluator.specs.Evaluator.{loaded, advanced, advance-checks, steps-made, readings-checks, readings-refusal, readings-list}
 use Rattle.scale.specs.Scale.{every}
 use Rattle.accuracy.specs.Accuracy as calls
-use Rattle.accuracy.specs.Accuracy.{Call, advance, readings, ExactValues, G, b, after, true-digit}
+use Rattle.accuracy.specs.Accuracy.{Call, advance, readings, ExactValues, G, b, after, additions-made, true-digit}
 use Rattle.evaluator.proofs.ExamplePastOrder.{frame-A}
 
 -- ---- A with the x of 3 that document 02 gives it: polynomial, p 3 and 8, over 16; m 4, and so five steps
@@ -86,7 +87,8 @@ exact-A = record { solves = solves-row }
     solves-row (suc (suc i)) l = absurd (omega arith)
 
 -- the calls themselves: readings to no word and to one word are refused by 23, those to three words are not;
--- at the end five steps are made, readings leave 9, 16 and the third word, and the scale is 0
+-- at the end five steps are made, readings leave 9, 16 and the third word, the scale is 0, one addition is
+-- counted, and readings to one word are refused by 23 and leave it
 pub readings-A : (x y w : ℤ) →
     (readings-refusal (after frame-A two-steps-A) 0 ≡ 23)
     × (readings-refusal (after frame-A middle-A) 3 ≡ 0)
@@ -95,5 +97,8 @@ pub readings-A : (x y w : ℤ) →
     × (after frame-A calls-A .k ≡ 5)
     × (readings-list (after frame-A calls-A) (x ∷ y ∷ w ∷ []) ≡ pos 9 ∷ pos 16 ∷ w ∷ [])
     × (after frame-A calls-A .scale ≡ 0)
-unfolding frame-A calls-A two-steps-A middle-A end-A calls.run loaded advanced advance-checks steps-made steps one-step readings-checks readings-list fresh breaks-limit beyond frame-checks field number bits values-from decode curve-entry matrix right-side first-row-from every weight total dot sum list-from stores stepped-digits stepped-residuals shifted next-digit next-residual select rounded estimate cut-down digit-size reading
-readings-A x y w = (refl, refl, refl, refl, refl, refl, refl)
+    × (additions-made frame-A calls-A ≡ 1)
+    × (readings-refusal (after frame-A calls-A) 1 ≡ 23)
+    × (readings-list (after frame-A calls-A) (x ∷ []) ≡ x ∷ [])
+unfolding frame-A calls-A two-steps-A middle-A end-A calls.run calls.calls-additions loaded advanced advance-checks steps-made steps one-step steps-additions step-additions readings-checks readings-list fresh breaks-limit beyond frame-checks field number bits values-from decode curve-entry matrix right-side first-row-from every weight total dot sum list-from stores stepped-digits stepped-residuals shifted next-digit next-residual select rounded estimate cut-down digit-size reading
+readings-A x y w = (refl, refl, refl, refl, refl, refl, refl, refl, refl, refl)

@@ -35,7 +35,7 @@ one-step-E = advance 1 ∷ []
 
 -- ---- what the definitions give
 
-accepted-E : frame-refusal frame-E ≡ 0
+pub accepted-E : frame-refusal frame-E ≡ 0
 unfolding frame-E frame-checks field number bits values-from decode curve-entry matrix right-side first-row-from every weight total
 accepted-E = refl
 
@@ -65,7 +65,7 @@ module _ (holds : (calls : List Call) → Accurate frame-E calls) where
   unfolding frame-E calls-E budgets field number bits values-from decode right-side every
   steps-E = omega (arith, holds calls-E .steps-made)
 
-  steps-one : after frame-E one-step-E .k ≡ 1
+  pub steps-one : after frame-E one-step-E .k ≡ 1
   unfolding frame-E one-step-E budgets field number bits values-from decode right-side every
   steps-one = omega (arith, holds one-step-E .steps-made)
 

@@ -1,6 +1,6 @@
 -- `Performed` at work on case A with an x of 3 and on document 01's case D: from the promise alone, the very
 -- numbers that `perform` answers and leaves in the list.
-use mathlib.Core.Path.{_≡_, refl, sym, ap, ap₂, _∙_}
+use mathlib.Core.Path.{_≡_, refl, sym, ap, _∙_}
 use mathlib.Core.List.{List, [], _∷_, _++_}
 use Prim.Native.Nat.{ℕ, _+_, _<_, _≤_}
 use native.Mathlib.Omega.{arith}
@@ -13,6 +13,7 @@ use Rattle.bitfields.specs.Twos.{decode}
 use Rattle.system.specs.Rows.{first-row-from}
 use Rattle.system.specs.System.{curve-entry, matrix, right-side}
 use Rattle.frame.specs.Frame.{frame-checks}
+use Rattle.additions.specs.Additions.{step-additions, additions}
 use Rattle.stepping.specs.Steps.{stepped-digits, stepped-residuals, steps, one-step}
 use Rattle.recurrence.specs.Recurrence.{digit, residual, shifted, next-digit, next-residual, reading, select, rounded, estimate, cut-down, digit-size}
 use Rattle.state.specs.State.{beyond, fresh, breaks-limit}
@@ -64,12 +65,12 @@ module _ (r : Evaluated) (final : List ℤ) (p : Performed frame-A words-A given
   unfolding words-A given-A calls-of parts-after room-of-all readings-list readings-checks frame-A calls.run loaded advanced advance-checks steps-made steps one-step fresh breaks-limit beyond frame-checks field number bits values-from decode curve-entry matrix right-side first-row-from every weight total dot sum list-from stores stepped-digits stepped-residuals shifted next-digit next-residual select rounded estimate cut-down digit-size reading
   list-A = p .accepted (omega (arith, accepted-A)) .1
 
-  -- by demand 3 the scale is 0 and five steps are made
-  answer-A : r ≡ record { refusal = 0; row = 0; scale = 0; made = 5 }
-  unfolding words-A given-A calls-of budgets frame-A field number bits values-from decode right-side every
+  -- by demand 3 the scale is 0, five steps are made, and one addition is counted
+  answer-A : r ≡ record { refusal = 0; row = 0; scale = 0; made = 5; additions = 1 }
+  unfolding words-A given-A calls-of budgets frame-A additions step-additions total field number bits values-from decode curve-entry matrix right-side every dot sum digit residual shifted next-digit next-residual select rounded estimate cut-down digit-size
   answer-A =
-      p .accepted (omega (arith, accepted-A)) .0
-      ∙ ap₂ (λ (c k : ℕ). record { refusal = 0; row = 0; scale = c; made = k }) (p .accurate (omega (arith, accepted-A)) .scale-held) (p .accurate (omega (arith, accepted-A)) .steps-made)
+      let a = p .accurate (omega (arith, accepted-A)) in
+      p .accepted (omega (arith, accepted-A)) .0 ∙ rw (a .scale-held, a .additions-counted, a .steps-made)
 
   -- and the fourth word is row 1's reading
   fourth-word-A : at final 3 ≡ pos 9
@@ -82,7 +83,7 @@ module _ (r : Evaluated) (final : List ℤ) (p : Performed frame-A words-A given
 
 -- ---- D: refused by 8, with row 1
 
-refused-D : (r : Evaluated) (final : List ℤ) → Performed frame-D words-A given-A r final → (r ≡ record { refusal = 8; row = 1; scale = 0; made = 0 }) × (final ≡ given-A)
+refused-D : (r : Evaluated) (final : List ℤ) → Performed frame-D words-A given-A r final → (r ≡ record { refusal = 8; row = 1; scale = 0; made = 0; additions = 0 }) × (final ≡ given-A)
 unfolding frame-D frame-checks field number bits values-from decode curve-entry matrix right-side first-row-from every weight total
 refused-D r final p = p .refused (omega arith)
 

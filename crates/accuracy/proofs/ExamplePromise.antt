@@ -21,19 +21,20 @@ use Rattle.accuracy.proofs.ExampleA.{calls-A, accepted-A, values-A, exa
 -- ---- D: x 5 in A
 
 -- it is refused by 8 with row 1, no step is made, and no word of the list changes
-pub promised-D : (list : List ℕ) (given : List ℤ) (r : Evaluated) (final : List ℤ) → Promise frame-D list given r final → (r ≡ record { refusal = 8; row = 1; scale = 0; made = 0 }) × (final ≡ given)
+pub promised-D : (list : List ℕ) (given : List ℤ) (r : Evaluated) (final : List ℤ) → Promise frame-D list given r final → (r ≡ record { refusal = 8; row = 1; scale = 0; made = 0; additions = 0 }) × (final ≡ given)
 unfolding frame-D frame-checks field number bits values-from decode curve-entry matrix right-side first-row-from every weight total
 promised-D list given r final p = p .refused (omega arith)
 
 -- ---- A, with the budgets 1, 0 and 9 and three words lent
 
 module _ (x y w : ℤ) (r : Evaluated) (final : List ℤ) (p : Promise frame-A (1 ∷ 0 ∷ 9 ∷ []) (x ∷ y ∷ w ∷ []) r final) where
-  -- it is not refused, five steps are made, and the list has 9, 16 and the third word as it was
-  pub promised-A : (r ≡ record { refusal = 0; row = 0; scale = 0; made = 5 }) × (final ≡ pos 9 ∷ pos 16 ∷ w ∷ [])
+  -- it is not refused, five steps are made and one addition is counted, and the list has 9, 16 and the third
+  -- word as it was
+  pub promised-A : (r ≡ record { refusal = 0; row = 0; scale = 0; made = 5; additions = 1 }) × (final ≡ pos 9 ∷ pos 16 ∷ w ∷ [])
   unfolding calls-A
   promised-A =
       let q = p .accepted (omega (arith, accepted-A)) in
-      (q .0 ∙ rw (readings-A x y w .3, readings-A x y w .4, readings-A x y w .6), q .1 ∙ readings-A x y w .5)
+      (q .0 ∙ rw (readings-A x y w .3, readings-A x y w .4, readings-A x y w .6, readings-A x y w .7), q .1 ∙ readings-A x y w .5)
 
   -- and demand 3 holds of the calls: after them five steps are made
   pub promised-steps-A : after frame-A (advance 1 ∷ advance 0 ∷ advance 9 ∷ readings (x ∷ y ∷ w ∷ []) ∷ []) .k ≡ 5
@@ -46,3 +47,13 @@ module _ (x y w : ℤ) (r : Evaluated) (final : List ℤ) (p : Promise frame-A (
   unfolding frame-A values-A budgets field number bits values-from decode right-side every
   promised-count-A =
       rw (promised-A .1) at (p .digit-count (omega (arith, accepted-A)) (omega arith) (omega arith) values-A 32 (omega (arith, accepted-A)) exact-A 0 (omega arith))
+
+-- ---- and with one word lent: refused by 23, the steps are made and their additions counted
+
+promised-short-A : (x : ℤ) (r : Evaluated) (final : List ℤ) → Promise frame-A (1 ∷ 0 ∷ 9 ∷ []) (x ∷ []) r final
+    → (r ≡ record { refusal = 23; row = 0; scale = 0; made = 5; additions = 1 }) × (final ≡ x ∷ [])
+unfolding calls-A
+promised-short-A x r final p =
+    let q = p .accepted (omega (arith, accepted-A)) in
+    let s = readings-A x x x in
+    (q .0 ∙ rw (s .8, s .4, s .6, s .7), q .1 ∙ s .9)

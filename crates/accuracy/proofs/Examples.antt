@@ -74,7 +74,7 @@ frame-B = 65 ∷ 16 ∷ 69 ∷ 8 ∷ 128 ∷ 3 ∷ []
 unfoldable pub calls-B : List Call
 calls-B = advance 3 ∷ advance 2 ∷ advance 7 ∷ []
 
-accepted-B : frame-refusal frame-B ≡ 0
+pub accepted-B : frame-refusal frame-B ≡ 0
 unfolding frame-B frame-checks field number bits values-from decode curve-entry matrix right-side first-row-from every weight total
 accepted-B = refl
 

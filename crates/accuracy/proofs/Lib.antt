@@ -11,5 +11,6 @@ pub mod ExampleIdentity
 pub mod ExamplePromise
 pub mod Examples
 pub mod ExampleE
+pub mod ExampleAdditions
 pub mod ExampleHalf
 pub mod ExamplePerform

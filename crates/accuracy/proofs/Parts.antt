@@ -1,9 +1,9 @@
--- Lists of calls that share one list lent: which part each readings call gets, and what the calls leave in
--- it. Cited by the proofs of `make_call` and `make_calls`, and by `Performed`.
-use mathlib.Core.Path.{_≡_, refl, sym, ap, _∙_}
+-- Lists of calls that share one list lent: which part each readings call gets, what the calls leave in it,
+-- and how many additions they count. Cited by the proofs of `make_call` and `make_calls`, and by `Performed`.
+use mathlib.Core.Path.{_≡_, refl, sym, ap, ap₂, _∙_}
 use mathlib.Core.List.{List, [], _∷_, _++_, append-assoc, append-nil}
 use mathlib.Core.Logic.{_⊎_, inl, inr}
-use Prim.Native.Nat.{ℕ, zero, suc, _+_, _-_, _<_, _≤_}
+use Prim.Native.Nat.{ℕ, zero, suc, _+_, _*_, _-_, _<_, _≤_}
 use native.Mathlib.Numerals.{add-one}
 use native.Mathlib.Omega.{arith}
 use borrow.Author.Tests.{le-ltb}
@@ -16,16 +16,20 @@ use Rattle.integers.proofs.Flat.{length-list-from}
 use Rattle.integers.proofs.Maximum.{le-or-lt}
 use Rattle.job.specs.Refusal.{first-refusal, None, none, also}
 use Rattle.job.proofs.Refusal.{accepted-before}
+use Rattle.job.proofs.Limits.{last-small}
 use Rattle.job.specs.declared.Header.{Header}
 use Rattle.state.specs.State.{state-checks}
 use Rattle.state.specs.declared.State.{State}
 use Rattle.evaluator.specs.Evaluator.{smaller, steps-made, advanced, state-reading, readings-checks, readings-refusal, readings-list}
 use Rattle.evaluator.specs.declared.Advanced.{Advanced}
 use Rattle.stepping.proofs.Steps.{steps-header}
-use Rattle.evaluator.proofs.Theorems.{readings-decided, refused-readings, readings-past, advanced-passes}
-use Rattle.accuracy.specs.Accuracy.{Call, advance, readings, state-after, run}
+use Rattle.stepping.proofs.Additions.{additions-small}
+use Rattle.evaluator.proofs.Kept.{passes-exactly}
+use Rattle.evaluator.proofs.Theorems.{made-grows, readings-decided, refused-readings, readings-past, advanced-passes}
+use Rattle.accuracy.specs.Accuracy.{Call, advance, readings, state-after, run, call-additions, calls-additions}
 use Rattle.accuracy.specs.Perform.{call-of, room-of, calls-of, room-of-all, part-after, parts-after, list-after, Untouched}
 use Rattle.accuracy.specs.declared.calls.Made.{Made}
+use Rattle.accuracy.specs.declared.calls.AllMade.{AllMade}
 use Rattle.accuracy.proofs.Runs.{smaller-left, smaller-right}
 
 -- ---- the states on the way
@@ -58,6 +62,25 @@ room-enough s room e = taken (readings-decided s room .accepted .0 e)
   where
     taken : None (readings-checks s room) → s .header .n ≤ room
     taken (also idle (also broken (also short none))) = nltb→le room (s .header .n) short
+
+-- calls of such a state count at most 256 additions a step, of which there are at most 60
+additions-left : (s : State) (cs : List Call) → first-refusal (state-checks s) ≡ 0 → calls-additions s cs + s .k * 256 ≤ 60 * 256
+unfolding calls-additions advanced
+additions-left s [] e =
+    let p = passes-exactly s .0 e .1 in
+    omega (arith, p .steps, last-small (s .header) (s .scale) (p .scaled))
+additions-left s (advance budget ∷ cs) e =
+    let p = passes-exactly s .0 e .1 in
+    omega (
+      arith,
+      additions-small s (steps-made s budget) (p .limits .order-most),
+      made-grows s budget,
+      additions-left (advanced s budget .state) cs (advanced-passes s budget e),
+    )
+additions-left s (readings part ∷ cs) e = omega (arith, additions-left s cs e)
+
+additions-few : (s : State) (cs : List Call) → first-refusal (state-checks s) ≡ 0 → calls-additions s cs ≤ 15360
+additions-few s cs e = omega (arith, additions-left s cs e)
 
 -- ---- a readings call keeps the length of its list
 
@@ -95,17 +118,21 @@ part-cut value room given e = by-case (le-or-lt value (length given))
 pub room-within : (value room : ℕ) (given : List ℤ) → room ≡ smaller value (length given) → room ≤ length given
 room-within value room given e = part-cut value room given e .1
 
+-- what `make_call` answers
+abbrev pub call-made : State → Call → Made
+call-made s c = record { state = state-after s c; additions = call-additions s c; room = room-of c }
+
 module _ (s : State) (value : ℕ) (given : List ℤ) where
   abbrev Answer : ℕ → Made → List ℤ → Type 0
   Answer kind r final =
-      (r ≡ record { state = state-after s (call-of kind value given); room = room-of (call-of kind value given) })
+      (r ≡ call-made s (call-of kind value given))
       × (final ≡ part-after s (call-of kind value given) ++ drop (room-of (call-of kind value given)) given)
 
-  pub call-advance : (kind : ℕ) (a : Advanced) → kind ≡ 0 → a ≡ advanced s value → Answer kind (record { state = a .state; room = 0 }) given
+  pub call-advance : (kind : ℕ) (a : Advanced) → kind ≡ 0 → a ≡ advanced s value → Answer kind (record { state = a .state; additions = a .additions; room = 0 }) given
   call-advance kind a k e = rw (k, e) (refl, refl)
 
   pub call-readings : (kind room : ℕ) (part : List ℤ) → (kind ≡ 0 → ⊥) → room ≡ smaller value (length given) → part ≡ readings-list s (take room given)
-      → Answer kind (record { state = s; room = room }) (part ++ drop room given)
+      → Answer kind (record { state = s; additions = 0; room = room }) (part ++ drop room given)
   call-readings zero room part k e f = absurd (k refl)
   call-readings (suc kind) room part k e f =
       let p = part-cut value room given e in
@@ -140,24 +167,33 @@ list-next : (s : State) (c : Call) (cs : List Call) (given : List ℤ) → list-
 unfolding parts-after room-of-all
 list-next s c cs given = rw (drop-drop (room-of-all cs) (room-of c) given) (append-assoc (part-after s c) (parts-after (state-after s c) cs) _)
 
--- what is left to do from here gives what the whole gives from the start
-pub record Turn (s : State) (words : List ℕ) (given final : List ℤ) (t : State) (from i : ℕ) : Type 0 where
+-- what `make_calls` answers
+abbrev pub calls-made : State → List Call → AllMade
+calls-made s cs = record { state = run s cs; additions = calls-additions s cs }
+
+-- what is left to do from here gives what the whole gives from the start, and counts what the whole counts
+-- beyond what is counted so far
+pub record Turn (s : State) (words : List ℕ) (given final : List ℤ) (t : State) (counted from i : ℕ) : Type 0 where
   pub passed : i ≤ length words
   pub within : from ≤ length final
   pub room : length final ≡ length given
   pub state : run t (calls-of (drop i words) (drop from final)) ≡ run s (calls-of words given)
+  pub additions : counted + calls-additions t (calls-of (drop i words) (drop from final)) ≡ calls-additions s (calls-of words given)
   pub list : take from final ++ list-after t (calls-of (drop i words) (drop from final)) (drop from final) ≡ list-after s (calls-of words given) given
 
 module _ (s : State) (words : List ℕ) (given : List ℤ) where
-  pub turn-first : Turn s words given given s 0 0
-  turn-first = record { passed = omega arith; within = omega arith; room = refl; state = refl; list = refl }
+  pub turn-first : Turn s words given given s 0 0 0
+  turn-first = record { passed = omega arith; within = omega arith; room = refl; state = refl; additions = omega arith; list = refl }
 
-  module _ (final : List ℤ) (t : State) (from i : ℕ) (turn : Turn s words given final t from i) where
-    pub turn-last : length words - i < 2 → (t ≡ run s (calls-of words given)) × (final ≡ list-after s (calls-of words given) given)
-    unfolding run parts-after room-of-all
+  module _ (final : List ℤ) (t : State) (counted from i : ℕ) (turn : Turn s words given final t counted from i) where
+    pub turn-last : length words - i < 2
+        → (record { state = t; additions = counted } ≡ calls-made s (calls-of words given)) × (final ≡ list-after s (calls-of words given) given)
+    unfolding run calls-additions parts-after room-of-all
     turn-last h =
         let e : calls-of (drop i words) (drop from final) ≡ [] = calls-last (drop i words) (drop from final) (rw length-drop h) in
-        (rw e at (turn .state), sym (take-append-drop from final) ∙ (rw e at (turn .list)))
+        let et : t ≡ run s (calls-of words given) = rw e at (turn .state) in
+        let ec : counted ≡ calls-additions s (calls-of words given) = omega (arith, rw e at (turn .additions)) in
+        (ap₂ (λ (t : State) (a : ℕ). record { state = t; additions = a }) et ec, sym (take-append-drop from final) ∙ (rw e at (turn .list)))
 
     -- what is left of the list, the call that the next two words make of it, and the calls after it
     abbrev ahead : List ℤ
@@ -182,8 +218,8 @@ module _ (s : State) (words : List ℕ) (given : List ℤ) where
     next-within : from + room-of call ≤ length final
     next-within = omega (arith, room-part (getD words i 0) (getD words (i + 1) 0) ahead, length-drop from final)
 
-    next-turn : 2 ≤ length words - i → Turn s words given (done ++ drop (room-of call) ahead) (state-after t call) (from + room-of call) (i + 2)
-    unfolding run
+    next-turn : 2 ≤ length words - i → Turn s words given (done ++ drop (room-of call) ahead) (state-after t call) (counted + call-additions t call) (from + room-of call) (i + 2)
+    unfolding run calls-additions
     next-turn h =
         let e = calls-next words i ahead h in
         let d : drop (from + room-of call) (done ++ drop (room-of call) ahead) ≡ drop (room-of call) ahead = drop-at done (drop (room-of call) ahead) _ done-length in
@@ -195,6 +231,7 @@ module _ (s : State) (words : List ℕ) (given : List ℤ) where
           within = rw l next-within;
           room = l ∙ turn .room;
           state = rw d (rw e at (turn .state));
+          additions = rw d (omega (arith, rw e at (turn .additions)));
           list = rw (u, d)
               (append-assoc (take from final) (part-after t call) _ ∙ ap (λ (list : List ℤ). take from final ++ list) (sym (list-next t call calls ahead)) ∙ (rw e at (turn .list)));
         }
@@ -203,13 +240,18 @@ module _ (s : State) (words : List ℕ) (given : List ℤ) where
     abbrev lent : List ℤ
     lent = take (length final - from) ahead
 
-    pub turn-next : 2 ≤ length words - i → (m : Made) (part : List ℤ) → m ≡ record { state = state-after t (call-on lent); room = room-of (call-on lent) }
+    pub turn-next : 2 ≤ length words - i → (m : Made) (part : List ℤ) → m ≡ call-made t (call-on lent)
         → part ≡ part-after t (call-on lent) ++ drop (room-of (call-on lent)) lent
-        → Turn s words given (take from final ++ (part ++ drop (length final - from) ahead)) (m .state) (from + m .room) (i + 2)
+        → Turn s words given (take from final ++ (part ++ drop (length final - from) ahead)) (m .state) (counted + m .additions) (from + m .room) (i + 2)
     turn-next h m part em ep =
         let l : length ahead ≤ length final - from = omega (arith, length-drop from final) in
         let e : lent ≡ ahead = take-all (length final - from) ahead l in
         rw (em, ep, e, drop-of-length-le ahead l, append-nil, ← append-assoc (take from final) (part-after t call) (drop (room-of call) ahead)) (next-turn h)
+
+    -- what is counted by the end of the call is far below 2^64
+    pub turn-counts : 2 ≤ length words - i → (m : Made) → m ≡ call-made t (call-on lent)
+        → first-refusal (state-checks s) ≡ 0 → counted + m .additions ≤ 15360
+    turn-counts h m em e = omega (arith, turn-next h m _ em refl .additions, additions-few s (calls-of words given) e)
 
 -- ---- word by word
 

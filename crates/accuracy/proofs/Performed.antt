@@ -11,16 +11,16 @@ use Rattle.job.specs.declared.Header.{Header}
 use Rattle.frame.specs.Frame.{frame-refusal, frame-numbers}
 use Rattle.header.specs.Header.{header-of}
 use Rattle.state.specs.State.{fresh, state-checks}
-use Rattle.state.specs.declared.State.{State}
 use Rattle.evaluator.specs.Evaluator.{loaded, readings-refusal, readings-list}
 use Rattle.stepping.specs.Steps.{steps}
 use Rattle.evaluator.specs.declared.Loaded.{Loaded}
 use Rattle.evaluator.proofs.Kept.{fresh-start, loaded-passes}
 use Rattle.evaluator.proofs.Theorems.{accepted-load}
-use Rattle.accuracy.specs.Accuracy.{order, after, Call, readings, run}
+use Rattle.accuracy.specs.Accuracy.{order, after, Call, readings}
 use Rattle.accuracy.specs.Perform.{calls-of, room-of-all, list-after, Performed}
+use Rattle.accuracy.specs.declared.calls.AllMade.{AllMade}
 use Rattle.accuracy.proofs.Demand3.{accurate}
-use Rattle.accuracy.proofs.Parts.{run-header, run-passes, readings-taken, at-part, kept-word}
+use Rattle.accuracy.proofs.Parts.{run-header, run-passes, readings-taken, calls-made, at-part, kept-word}
 
 -- ---- an accepted frame: its state after any calls
 
@@ -57,7 +57,7 @@ module _ (frame words : List ℕ) (given : List ℤ) (l : Loaded) (e : l ≡ loa
   unfolding loaded
   refusal-is = ap (λ (x : Loaded). x .refusal) e
 
-  pub performed-refused : 0 < l .refusal → Performed frame words given (record { refusal = l .refusal; row = l .row; scale = 0; made = 0 }) given
+  pub performed-refused : 0 < l .refusal → Performed frame words given (record { refusal = l .refusal; row = l .row; scale = 0; made = 0; additions = 0 }) given
   unfolding loaded
   performed-refused h =
       record {
@@ -68,15 +68,20 @@ module _ (frame words : List ℕ) (given : List ℤ) (l : Loaded) (e : l ≡ loa
         kept = λ g j free. refl;
       }
 
-  pub performed-accepted : (t : State) (final : List ℤ) → l .refusal ≤ 0 → t ≡ run (l .state) (calls-of words given) → final ≡ list-after (l .state) (calls-of words given) given
-      → Performed frame words given (record { refusal = 0; row = 0; scale = t .scale; made = t .k }) final
-  performed-accepted t final h et el =
+  -- the state that load gives passes 20 and 24
+  pub performed-passes : l .refusal ≤ 0 → first-refusal (state-checks (l .state)) ≡ 0
+  performed-passes h = rw e (start-passes frame (omega (arith, refusal-is)))
+
+  pub performed-accepted : (m : AllMade) (final : List ℤ) → l .refusal ≤ 0
+      → m ≡ calls-made (l .state) (calls-of words given)
+      → final ≡ list-after (l .state) (calls-of words given) given
+      → Performed frame words given (record { refusal = 0; row = 0; scale = m .state .scale; made = m .state .k; additions = m .additions }) final
+  performed-accepted m final h em el =
       let ok : frame-refusal frame ≡ 0 = omega (arith, refusal-is) in
-      let ft : t ≡ after frame (calls-of words given) = et ∙ ap (λ (x : Loaded). run (x .state) (calls-of words given)) e in
       let fl : final ≡ list-after (loaded frame .state) (calls-of words given) given = el ∙ ap (λ (x : Loaded). list-after (x .state) (calls-of words given) given) e in
       record {
         refused = λ g. absurd (omega arith);
-        accepted = λ g. (rw ft, fl);
+        accepted = λ g. (rw (em, e), fl);
         accurate = λ g. accurate frame ok (calls-of words given);
         handed-out = λ g before rest part s m i a.
             in-part frame ok (calls-of words given) before rest part given final fl s i (omega arith)

@@ -2,7 +2,7 @@
 use mathlib.Core.Path.{_≡_, refl, sym, ap, _∙_}
 use mathlib.Core.Bool.{true}
 use mathlib.Core.List.{List, [], _∷_, _++_}
-use Prim.Native.Nat.{ℕ, _+_, _<_, _≤_}
+use Prim.Native.Nat.{ℕ, _<_, _≤_}
 use native.Mathlib.Omega.{arith}
 use borrow.Author.Tests.{lt-ltb, le-ltb}
 use lib.IntN.{ℤ, pos}
@@ -22,7 +22,7 @@ use Rattle.state.specs.State.{digits-of, fresh, state-checks, state-last, Passe
 use Rattle.state.specs.Inner.{state-of}
 use Rattle.state.specs.declared.State.{State}
 use Rattle.evaluator.specs.Evaluator.{loaded, smaller, state-reading, readings-refusal, readings-list}
-use Rattle.stepping.specs.Steps.{steps}
+use Rattle.stepping.specs.Steps.{steps, steps-additions}
 use Rattle.evaluator.specs.declared.Loaded.{Loaded}
 use Rattle.stepping.specs.Inner.{MayStep}
 use Rattle.evaluator.proofs.Kept.{fresh-start, loaded-passes-limits, loaded-passes}
@@ -33,11 +33,11 @@ use Rattle.stepping.proofs.Steps.{steps-header, steps-scale, steps-k}
 use Rattle.evaluator.proofs.Horner.{may-read-rows}
 use Rattle.stepping.proofs.Stepping.{fresh-whole}
 use Rattle.evaluator.proofs.Theorems.{accepted-load}
-use Rattle.accuracy.specs.Accuracy.{order, radix-of, last-step-of, true-digit, DigitCount, after, run, budgets, advances, readings}
+use Rattle.accuracy.specs.Accuracy.{order, radix-of, last-step-of, true-digit, DigitCount, after, run, budgets, calls-additions, advances, readings}
 use Rattle.accuracy.specs.Promise.{Promise}
 use Rattle.accuracy.proofs.Demand3.{counted, accurate}
 use Rattle.accuracy.proofs.Performed.{taken}
-use Rattle.accuracy.proofs.Runs.{smaller-left, run-is, allowed-most}
+use Rattle.accuracy.proofs.Runs.{smaller-left, run-all, counted-all, allowed-most}
 
 -- a state's digits and readings, by its header, its steps and its digits
 readable-of : (t : State) {h : Header} {k : ℕ} {ds : List ℤ} → t .header ≡ h → t .k ≡ k → ds ≡ t .digits → PassesLimits t → MayReadRows h k ds
@@ -63,7 +63,7 @@ module _ (frame list : List ℕ) (given : List ℤ) (l : Loaded) (e : l ≡ load
   unfolding loaded
   refusal-is = ap (λ (x : Loaded). x .refusal) e
 
-  pub promise-refused : 0 < l .refusal → Promise frame list given (record { refusal = l .refusal; row = l .row; scale = 0; made = 0 }) given
+  pub promise-refused : 0 < l .refusal → Promise frame list given (record { refusal = l .refusal; row = l .row; scale = 0; made = 0; additions = 0 }) given
   unfolding loaded
   promise-refused h =
       record {
@@ -73,14 +73,15 @@ module _ (frame list : List ℕ) (given : List ℤ) (l : Loaded) (e : l ≡ load
         digit-count = λ g. absurd (omega (arith, refusal-is));
       }
 
-  pub promise-accepted : (t : State) (c : ℕ) (final : List ℤ) → l .refusal ≤ 0 → t ≡ run (l .state) (advances list) → c ≡ readings-refusal t (length given) → final ≡ readings-list t given
-      → Promise frame list given (record { refusal = c; row = 0; scale = t .scale; made = t .k }) final
-  promise-accepted t c final h et ec el =
+  pub promise-accepted : (t : State) (c a : ℕ) (final : List ℤ) → l .refusal ≤ 0 → t ≡ run (l .state) (advances list) → a ≡ calls-additions (l .state) (advances list)
+      → c ≡ readings-refusal t (length given) → final ≡ readings-list t given
+      → Promise frame list given (record { refusal = c; row = 0; scale = t .scale; made = t .k; additions = a }) final
+  promise-accepted t c a final h et ea ec el =
       let ok : frame-refusal frame ≡ 0 = omega (arith, refusal-is) in
       let f : t ≡ after frame (advances list) = et ∙ ap (λ (x : Loaded). run (x .state) (advances list)) e in
       record {
         refused = λ g. absurd (omega arith);
-        accepted = λ g. rw (← f) (rw ec, el);
+        accepted = λ g. rw (← f) (rw (ec, ea, e), el);
         accurate = λ g. accurate frame ok (advances list ++ (readings given ∷ []));
         digit-count = λ g. counted-words frame list given final ok (el ∙ ap (λ (s : State). readings-list s given) f);
       }
@@ -129,10 +130,7 @@ module _ (frame list : List ℕ) (given : List ℤ) (l : Loaded) (e : l ≡ load
       done = steps job made
 
       run-made : done ≡ run job (advances list)
-      unfolding steps
-      run-made =
-          let z : 0 + budgets (advances list) ≡ budgets (advances list) = omega arith in
-          ap (steps job) (em ∙ ap (smaller (state-last job)) (sym z)) ∙ sym (run-is job (job-start .1) passes 0 (advances list) (omega arith))
+      run-made = rw em (sym (run-all job (job-start .1) passes (advances list)))
 
       k-is : done .k ≡ made
       k-is = omega (arith, steps-k job made, job-start .1)
@@ -144,11 +142,21 @@ module _ (frame list : List ℕ) (given : List ℤ) (l : Loaded) (e : l ≡ load
       pub steppable : MayStep (state-of true (job .header) (job .scale) 0 (job .g) (job .z) (replicate 960 (pos 0))) made
       steppable = rw whole (record { passes = job-sound; room = room; left = omega (arith, made-most, job-start .1) })
 
-      with-made : (c : ℕ) (final : List ℤ) → Promise frame list given (record { refusal = c; row = 0; scale = done .scale; made = done .k }) final
-          → Promise frame list given (record { refusal = c; row = 0; scale = job .scale; made = made }) final
-      with-made c final p = rw (steps-scale job made, k-is) at p
+      -- what `make_steps` answers and leaves: the additions, in `a`, are those of the advances,
+      module _ (a : ℕ) (ea : a ≡ steps-additions (state-of true (job .header) (job .scale) 0 (job .g) (job .z) (replicate 960 (pos 0))) made) where
+        additions-are : a ≡ calls-additions job (advances list)
+        additions-are = (rw (whole, em) at ea) ∙ sym (counted-all job (job-start .1) passes (advances list))
 
-      -- what `make_steps` leaves, in `ds`, can be read
+        with-made : (c : ℕ) (final : List ℤ) → c ≡ readings-refusal done (length given) → final ≡ readings-list done given
+            → Promise frame list given (record { refusal = c; row = 0; scale = job .scale; made = made; additions = a }) final
+        with-made c final ec el = rw (steps-scale job made, k-is) at (promise-accepted done c a final h run-made additions-are ec el)
+
+        pub promise-short : length given < job .header .n → Promise frame list given (record { refusal = 23; row = 0; scale = job .scale; made = made; additions = a }) given
+        promise-short m =
+            let r = readings-refuses done given 0 23 (sym (passes made made-most)) (rw (steps-header job made, lt-ltb (length given) (job .header .n) m) refl) (λ q. omega arith) in
+            with-made 23 given (r .0) (r .1)
+
+      -- and the digits, in `ds`, can be read
       module _ (ds : List ℤ) (ed : ds ≡ steps (state-of true (job .header) (job .scale) 0 (job .g) (job .z) (replicate 960 (pos 0))) made .digits) where
         digits-are : ds ≡ done .digits
         digits-are = rw whole at ed
@@ -157,15 +165,11 @@ module _ (frame list : List ℕ) (given : List ℤ) (l : Loaded) (e : l ≡ load
         rows-readable =
             readable-of done (steps-header job made) k-is digits-are (steps-pass-limits job made job-sound (omega (arith, made-most, job-start .1)))
 
-        pub promise-done : (final : List ℤ) → job .header .n ≤ length given
+        pub promise-done : (a : ℕ) → a ≡ steps-additions (state-of true (job .header) (job .scale) 0 (job .g) (job .z) (replicate 960 (pos 0))) made
+            → (final : List ℤ) → job .header .n ≤ length given
             → final ≡ list-from 0 (job .header .n) (reading (radix (job .header .code)) (digits-of ds) made) ++ drop (job .header .n) given
-            → Promise frame list given (record { refusal = 0; row = 0; scale = job .scale; made = made }) final
-        promise-done final m el =
+            → Promise frame list given (record { refusal = 0; row = 0; scale = job .scale; made = made; additions = a }) final
+        promise-done a ea final m el =
             let r = readings-writes done given 0 0 (sym (passes made made-most)) (rw (steps-header job made, le-ltb (length given) (job .header .n) m) refl)
             final refl (readings-of done given (steps-header job made) k-is digits-are el) in
-            with-made 0 final (promise-accepted done 0 final h run-made (r .0) (r .1))
-
-      pub promise-short : length given < job .header .n → Promise frame list given (record { refusal = 23; row = 0; scale = job .scale; made = made }) given
-      promise-short m =
-          let r = readings-refuses done given 0 23 (sym (passes made made-most)) (rw (steps-header job made, lt-ltb (length given) (job .header .n) m) refl) (λ q. omega arith) in
-          with-made 23 given (promise-accepted done 23 given h run-made (r .0) (r .1))
+            with-made a ea 0 final (r .0) (r .1)

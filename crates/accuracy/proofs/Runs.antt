@@ -1,5 +1,6 @@
 -- Lists of calls from a fresh job are steps of it: as many as the smaller of the last step and the sum of
--- the budgets. Cited by `Demand3`, and by the proof of `steps_allowed`.
+-- the budgets, with the additions of these steps. Cited by `Demand3` and `Promised`, and by the proof of
+-- `steps_allowed`.
 use mathlib.Core.Path.{_≡_, refl, sym, ap₂, _∙_}
 use mathlib.Core.Bool.{cond}
 use mathlib.Core.List.{List, [], _∷_, _++_}
@@ -17,10 +18,11 @@ use Rattle.job.specs.Refusal.{first-refusal}
 use Rattle.job.proofs.Refusal.{accepted-before}
 use Rattle.state.specs.State.{state-checks, state-last}
 use Rattle.state.specs.declared.State.{State}
-use Rattle.stepping.specs.Steps.{steps}
+use Rattle.stepping.specs.Steps.{steps, steps-additions}
 use Rattle.evaluator.specs.Evaluator.{smaller, advanced, advance-checks, steps-made}
 use Rattle.stepping.proofs.Steps.{steps-header, steps-scale, steps-k, steps-add}
-use Rattle.accuracy.specs.Accuracy.{Call, advance, readings, run, budgets, advances}
+use Rattle.stepping.proofs.Additions.{no-additions, additions-add}
+use Rattle.accuracy.specs.Accuracy.{Call, advance, readings, run, budgets, calls-additions, advances}
 
 -- ---- the smaller of two numbers
 
@@ -83,14 +85,21 @@ module _ (s : State) (start : s .k ≡ 0) (passes : (j : ℕ) → j ≤ state-la
   made : (j : ℕ) → steps s j .k ≡ j
   made j = omega (arith, steps-k s j)
 
+  made-to : (j budget : ℕ) → j ≤ state-last s → j + steps-made (steps s j) budget ≡ smaller (state-last s) (j + budget)
+  made-to j budget h =
+      made-from (steps s j) j (state-last s) budget (made j) (ap₂ last-step (steps-header s j) (steps-scale s j)) (passes j h) h
+
+  -- an advance of the state after j steps: the state that it gives, and the additions that it counts
   advance-is : (j budget : ℕ) → j ≤ state-last s → advanced (steps s j) budget .state ≡ steps s (smaller (state-last s) (j + budget))
   unfolding advanced
-  advance-is j budget h =
-      let e : j + steps-made (steps s j) budget ≡ smaller (state-last s) (j + budget) =
-      made-from (steps s j) j (state-last s) budget (made j) (ap₂ last-step (steps-header s j) (steps-scale s j)) (passes j h) h in
-      sym (steps-add s j (steps-made (steps s j) budget)) ∙ rw e
+  advance-is j budget h = sym (steps-add s j (steps-made (steps s j) budget)) ∙ rw (made-to j budget h)
 
-  pub run-is : (j : ℕ) (calls : List Call) → j ≤ state-last s → run (steps s j) calls ≡ steps s (smaller (state-last s) (j + budgets calls))
+  advance-counts : (j budget : ℕ) → j ≤ state-last s
+      → steps-additions s j + advanced (steps s j) budget .additions ≡ steps-additions s (smaller (state-last s) (j + budget))
+  unfolding advanced
+  advance-counts j budget h = sym (additions-add s j (steps-made (steps s j) budget)) ∙ rw (made-to j budget h)
+
+  run-is : (j : ℕ) (calls : List Call) → j ≤ state-last s → run (steps s j) calls ≡ steps s (smaller (state-last s) (j + budgets calls))
   unfolding run budgets
   run-is j [] h = let e : j + 0 ≡ j = omega arith in rw (e, smaller-right (state-last s) j h)
   run-is j (advance budget ∷ calls) h =
@@ -98,6 +107,27 @@ module _ (s : State) (start : s .k ≡ 0) (passes : (j : ℕ) → j ≤ state-la
       rw (advance-is j budget h, e, ← smaller-again (state-last s) (j + budget) (budgets calls))
       (run-is (smaller (state-last s) (j + budget)) calls (smaller-within (state-last s) (j + budget)))
   run-is j (readings out ∷ calls) h = run-is j calls h
+
+  counted-is : (j : ℕ) (calls : List Call) → j ≤ state-last s
+      → steps-additions s j + calls-additions (steps s j) calls ≡ steps-additions s (smaller (state-last s) (j + budgets calls))
+  unfolding calls-additions budgets
+  counted-is j [] h = let e : j + 0 ≡ j = omega arith in rw (e, smaller-right (state-last s) j h) (omega arith)
+  counted-is j (advance budget ∷ calls) h =
+      let e : j + (budget + budgets calls) ≡ j + budget + budgets calls = omega arith in
+      rw (advance-is j budget h, e, ← smaller-again (state-last s) (j + budget) (budgets calls))
+      (omega (arith, advance-counts j budget h, counted-is (smaller (state-last s) (j + budget)) calls (smaller-within (state-last s) (j + budget))))
+  counted-is j (readings out ∷ calls) h = omega (arith, counted-is j calls h)
+
+  -- from the start
+  pub run-all : (calls : List Call) → run s calls ≡ steps s (smaller (state-last s) (budgets calls))
+  unfolding steps
+  run-all calls = let e : 0 + budgets calls ≡ budgets calls = omega arith in rw (← e) (run-is 0 calls (omega arith))
+
+  pub counted-all : (calls : List Call) → calls-additions s calls ≡ steps-additions s (smaller (state-last s) (budgets calls))
+  unfolding steps
+  counted-all calls =
+      let e : 0 + budgets calls ≡ budgets calls = omega arith in
+      rw (← e) (omega (arith, no-additions s, counted-is 0 calls (omega arith)))
 
 -- ---- a loop over budgets
 

@@ -6,6 +6,7 @@ use lib.{IntN.ℤ, IntN.pos, IntN.natAbs, IntN._+ℤ_, IntN._-ℤ_, IntN._*ℤ_,
 use Rattle.integers.specs.{Flat.at, Sum.dot}
 use Rattle.job.specs.{Header.radix, Header.unit, Kind.Kind, Kind.kind-of, Rules.last-step, Rules.scale-factor, Rules.inner-unit}
 use Rattle.system.specs.System.{matrix-of, right-side-of}
+use Rattle.additions.specs.Additions.{additions, entries, most-entries}
 use Rattle.scale.specs.Scale.{job-scale}
 use Rattle.header.specs.Header.{header-of}
 use Rattle.frame.specs.Frame.{frame-numbers, frame-refusal}
@@ -38,6 +39,15 @@ unfoldable pub budgets : List Call → ℕ
 budgets [] = 0
 budgets (advance budget ∷ cs) = budget + budgets cs
 budgets (readings out ∷ cs) = budgets cs
+
+-- the additions that a call counts, none where it is no advance or a refused one, and those of all calls
+abbrev pub call-additions : State → Call → ℕ
+call-additions s (advance budget) = advanced s budget .additions
+call-additions s (readings out) = 0
+
+unfoldable pub calls-additions : State → List Call → ℕ
+calls-additions s [] = 0
+calls-additions s (c ∷ cs) = call-additions s c + calls-additions (state-after s c) cs
 
 -- an advance for each budget
 abbrev pub advances : List ℕ → List Call
@@ -96,6 +106,10 @@ divided-b frame = b frame
 abbrev pub true-digit : List ℕ → ℕ → ℕ → ℤ
 true-digit frame = job-digit (header-of frame) (scale-of frame) (G frame) (b frame)
 
+-- the additions of its first k steps (document 02, request 6), over G and these digits alone
+abbrev pub job-additions : List ℕ → ℕ → ℕ
+job-additions frame = additions (order frame) (G frame) (true-digit frame)
+
 -- ---- its exact values
 
 -- whole numbers N, one a row, and D such that the fractions N / D solve all rows: A times their vector is b
@@ -124,6 +138,10 @@ DigitCount frame y = (N : ℕ → ℤ) (D : ℕ) → 0 < D → ExactValues frame
 abbrev pub after : List ℕ → List Call → State
 after frame calls = run (loaded frame .state) calls
 
+-- the additions that the calls have counted
+abbrev pub additions-made : List ℕ → List Call → ℕ
+additions-made frame calls = calls-additions (loaded frame .state) calls
+
 -- the digit of step j and row i that it holds
 abbrev pub held-digit : (frame : List ℕ) (calls : List Call) (j i : ℕ) → ℤ
 held-digit frame calls = digits-of (after frame calls .digits)
@@ -140,6 +158,12 @@ pub record Accurate (frame : List ℕ) (calls : List Call) : Type 0 where
   -- the digits are those of the steps on the frame's numbers, and 0 past the steps made
   pub digits : (j i : ℕ) → 1 ≤ j → j ≤ after frame calls .k → i < order frame → held-digit frame calls j i ≡ true-digit frame j i
   pub later-digits : (j i : ℕ) → after frame calls .k < j → j ≤ all-steps → i < order frame → held-digit frame calls j i ≡ pos 0
+  -- the additions that the calls counted in all are those of the steps made
+  pub additions-counted : additions-made frame calls ≡ job-additions frame (after frame calls .k)
+  -- after k steps they are at most k - 1 times the entries of G other than 0, and so at most k - 1 times n - 1
+  -- for a polynomial and 2 (n - 1) for a rational curve; after 0 steps there are none
+  pub additions-most : additions-made frame calls ≤ (after frame calls .k - 1) * entries (order frame) (G frame)
+  pub additions-by-kind : additions-made frame calls ≤ (after frame calls .k - 1) * most-entries (kind frame) (order frame)
   -- the scale that the state holds, and hands on with every reading, is the frame's
   pub scale-held : after frame calls .scale ≡ scale-of frame
   -- for every k up to the steps made, every exact value and every row: (r - 1) |N r^k - D Y r^s| ≤ p D r^s

@@ -8,7 +8,7 @@ use Rattle.frame.specs.Frame.{frame-refusal}
 use Rattle.recurrence.specs.Recurrence.{reading}
 use Rattle.state.specs.declared.State.{State}
 use Rattle.evaluator.specs.Evaluator.{loaded, smaller, readings-list}
-use Rattle.accuracy.specs.{Accuracy.order, Accuracy.radix-of, Accuracy.last-step-of, Accuracy.true-digit, Accuracy.after, Accuracy.Accurate, Accuracy.Call, Accuracy.advance, Accuracy.readings, Accuracy.state-after, Accuracy.budgets, declared.Evaluated.Evaluated, Promise.refused-evaluated}
+use Rattle.accuracy.specs.{Accuracy.order, Accuracy.radix-of, Accuracy.last-step-of, Accuracy.true-digit, Accuracy.after, Accuracy.additions-made, Accuracy.Accurate, Accuracy.Call, Accuracy.advance, Accuracy.readings, Accuracy.state-after, Accuracy.budgets, declared.Evaluated.Evaluated, Promise.refused-evaluated}
 
 -- ---- the calls that words name; `given` is what is left of the list lent
 
@@ -60,9 +60,10 @@ Untouched n calls j = (before rest : List Call) (part : List ℤ) → calls ≡ 
 pub record Performed (frame words : List ℕ) (given : List ℤ) (r : Evaluated) (final : List ℤ) : Type 0 where
   -- a refused frame: no call is made and nothing handed out
   pub refused : 0 < frame-refusal frame → (r ≡ refused-evaluated frame) × (final ≡ given)
-  -- an accepted one: the scale, the steps that the calls made in all, and the list as the calls leave it
+  -- an accepted one: the scale, the steps that the calls made in all and the additions that they counted, and
+  -- the list as the calls leave it
   pub accepted : frame-refusal frame ≡ 0 → let calls = calls-of words given in
-      (r ≡ record { refusal = 0; row = 0; scale = after frame calls .scale; made = after frame calls .k })
+      (r ≡ record { refusal = 0; row = 0; scale = after frame calls .scale; made = after frame calls .k; additions = additions-made frame calls })
       × (final ≡ list-after (loaded frame .state) calls given)
   -- demand 3 of just these calls
   pub accurate : frame-refusal frame ≡ 0 → Accurate frame (calls-of words given)

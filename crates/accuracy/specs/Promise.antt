@@ -7,9 +7,9 @@ use Rattle.integers.specs.Flat.{at}
 use Rattle.frame.specs.Frame.{frame-refusal, frame-row, frame-numbers}
 use Rattle.header.specs.Header.{header-of}
 use Rattle.evaluator.specs.Evaluator.{readings-refusal, readings-list}
-use Rattle.accuracy.specs.{Accuracy.order, Accuracy.last-step-of, Accuracy.DigitCount, Accuracy.after, Accuracy.Accurate, Accuracy.readings, Accuracy.budgets, Accuracy.advances, declared.Evaluated.Evaluated}
+use Rattle.accuracy.specs.{Accuracy.order, Accuracy.last-step-of, Accuracy.DigitCount, Accuracy.after, Accuracy.additions-made, Accuracy.Accurate, Accuracy.readings, Accuracy.budgets, Accuracy.advances, declared.Evaluated.Evaluated}
 
--- the answer to a refused frame: its number and row, and no step made
+-- the answer to a refused frame: its number and row, no step made and no addition
 abbrev pub refused-evaluated : List ℕ → Evaluated
 refused-evaluated frame =
     record {
@@ -17,15 +17,17 @@ refused-evaluated frame =
       row = frame-row (frame-refusal frame) (header-of frame) (frame-numbers frame);
       scale = 0;
       made = 0;
+      additions = 0;
     }
 
 -- `list` are the budgets, `given` is the list lent, `final` what is in it at the end
 pub record Promise (frame list : List ℕ) (given : List ℤ) (r : Evaluated) (final : List ℤ) : Type 0 where
   -- a refused frame: nothing is handed out
   pub refused : 0 < frame-refusal frame → (r ≡ refused-evaluated frame) × (final ≡ given)
-  -- an accepted one: the scale, the steps made, and the readings as the call of readings hands them out
+  -- an accepted one: the scale, the steps made and their additions, and the readings as the call of readings
+  -- hands them out
   pub accepted : frame-refusal frame ≡ 0 → let s = after frame (advances list) in
-      (r ≡ record { refusal = readings-refusal s (length given); row = 0; scale = s .scale; made = s .k }) × (final ≡ readings-list s given)
+      (r ≡ record { refusal = readings-refusal s (length given); row = 0; scale = s .scale; made = s .k; additions = additions-made frame (advances list) }) × (final ≡ readings-list s given)
   -- and demand 3
   pub accurate : frame-refusal frame ≡ 0 → Accurate frame (advances list ++ (readings given ∷ []))
   -- where the budgets make all steps and there is a word for each row, the digit count of these words

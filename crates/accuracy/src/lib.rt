@@ -13,13 +13,14 @@ mod calls; // calls.rt: a list of calls, made one by one
 pub use calls::perform;
 use state::DIGITS;
 
-// A refusal number, 0 where there is none, the row given with it, the scale s, and the steps made, k. A
-// reading stands for itself divided by r^k and multiplied by r^s.
+// A refusal number, 0 where there is none, the row given with it, the scale s, the steps made, k, and the
+// additions that they cost. A reading stands for itself divided by r^k and multiplied by r^s.
 pub struct Evaluated {
     pub refusal: usize,
     pub row: usize,
     pub scale: usize,
     pub made: usize,
+    pub additions: usize,
 }
 
 // How many steps an advance for each budget of the list makes of a fresh job: as many as the budgets allow
@@ -39,7 +40,8 @@ fn steps_allowed(list: &[u64], last: usize) -> usize
 
 // Loads a frame, makes the steps that an advance for each budget makes, and writes a reading for each row
 // to `out`. Refused as load is, by 1 to 8 and 15, and then as readings are, by 23; a refusal changes no word
-// of `out`. The steps of all advances are made at once, and a state that load made is not looked at again.
+// of `out`. The steps of all advances are made at once, and a state that load made is not looked at again. With
+// 23 the steps are made too, as the advances make them, and counted.
 pub fn evaluate(frame: &[u8], budgets: &[u64], out: &mut [i64]) -> Evaluated
     ensures { λ r. ⌜ Promise (now (frame .entry)) (now (budgets .entry)) (now (out .entry)) r (now (out .exit)) ⌝ }
 {
@@ -50,27 +52,30 @@ pub fn evaluate(frame: &[u8], budgets: &[u64], out: &mut [i64]) -> Evaluated
             row: l.row,
             scale: 0,
             made: 0,
+            additions: 0,
         };
     }
     let h = l.state.header;
     let scale = l.state.scale;
     let made = steps_allowed(budgets, job::last_step(h, scale));
+    let mut z = l.state.z;
+    let mut digits = [0i8; DIGITS]; // as those of a fresh job are
+    let additions = stepping::make_steps(h, scale, 0, made, &l.state.g, &mut z, &mut digits);
     if out.len() < h.n {
         return Evaluated {
             refusal: 23,
             row: 0,
             scale,
             made,
+            additions,
         };
     }
-    let mut z = l.state.z;
-    let mut digits = [0i8; DIGITS]; // as those of a fresh job are
-    stepping::make_steps(h, scale, 0, made, &l.state.g, &mut z, &mut digits);
     evaluator::put_readings(h, made, &digits, out);
     Evaluated {
         refusal: 0,
         row: 0,
         scale,
         made,
+        additions,
     }
 }

@@ -1,30 +1,36 @@
 -- What each call of the C interface answers, and what it leaves in lent memory: the contracts of src/lib.rt
 -- are equalities with these. emethod.h says the same to a caller in C.
 use mathlib.Core.{Path._≡_, Bool.cond, List.List, List.[], List._∷_, List._++_, List.map}
-use Prim.Native.Nat.{ℕ, _+_, _*_, _%_, _^_, _≤_}
+use Prim.Native.Nat.{ℕ, _+_, _*_, _%_, _^_, _<_, _≤_}
 use lib.{Dec.ltb, Dec.eqb, IntN.ℤ, IntN.pos, ListN.length, ListN.drop}
 use Rattle.job.specs.{Header.count, Refusal.Check, Refusal.first-refusal, Refusal.Decides, declared.Header.Header}
 use Rattle.header.specs.Header.{header-of}
-use Rattle.frame.specs.declared.FrameWritten.{FrameWritten}
+use Rattle.frame.specs.{Frame.frame-refusal, declared.FrameWritten.FrameWritten}
 use Rattle.state.specs.declared.State.{State}
 use Rattle.evaluator.specs.Evaluator.{loaded, advanced}
 use Rattle.running_sums.specs.{RunningSums.sums-written, RunningSums.sums-list, declared.SumsWritten.SumsWritten}
 use Rattle.trace.specs.{Trace.digit-list, Trace.trace-checks, Trace.trace-refusal, Trace.trace-record, Trace.record-answer, Trace.trace-writer-answer, Trace.trace-writer-buffer, declared.Record.Record, declared.TraceWritten.TraceWritten}
-use Rattle.accuracy.specs.{Promise.Promise, declared.Evaluated.Evaluated}
+use Rattle.accuracy.specs.{Accuracy.Call, Accuracy.additions-made, Promise.Promise, declared.Evaluated.Evaluated}
 
--- ---- answers: a refusal, a row and a count in one number, and of a loaded frame its scale too
+-- ---- answers: a refusal, a row and a count in one number, of a loaded frame its scale too, and of an
+-- evaluation its additions
 
--- a count and a scale go with no refusal only
+-- a count, a scale and additions go with no refusal only
 abbrev pub if-accepted : (refusal number : ℕ) → ℕ
 if-accepted refusal number = cond (eqb refusal 0) number 0
 
--- 8 bits for the refusal, 8 for the row, 40 for the count
+-- 8 bits for the refusal, 8 for the row, 24 for the count
 abbrev pub answer-of : (refusal row count : ℕ) → ℕ
-answer-of refusal row count = refusal % 256 + 256 * (row % 256) + 65536 * (if-accepted refusal count % 2 ^ 40)
+answer-of refusal row count = refusal % 256 + 256 * (row % 256) + 65536 * (if-accepted refusal count % 2 ^ 24)
 
--- and 8 for the scale
+-- and the uppermost 8 for the scale
 abbrev pub scaled-answer-of : (refusal row count scale : ℕ) → ℕ
 scaled-answer-of refusal row count scale = answer-of refusal row count + 2 ^ 56 * (if-accepted refusal scale % 256)
+
+-- with 16 below it for the additions
+abbrev pub counted-answer-of : (refusal row count additions scale : ℕ) → ℕ
+counted-answer-of refusal row count additions scale =
+    scaled-answer-of refusal row count scale + 2 ^ 40 * (if-accepted refusal additions % 2 ^ 16)
 
 -- ---- em_check_frame: how many numbers a frame that loads has, and its scale
 
@@ -37,7 +43,11 @@ check-answer frame =
 pub record Evaluates (frame : List ℕ) (budget : ℕ) (given : List ℤ) (r : ℕ) (left : List ℤ) : Type 0 where
   pub evaluated : Evaluated
   pub promise : Promise frame (budget ∷ []) given evaluated left
-  pub answer : r ≡ scaled-answer-of (evaluated .refusal) (evaluated .row) (evaluated .made) (evaluated .scale)
+  pub answer : r ≡ counted-answer-of (evaluated .refusal) (evaluated .row) (evaluated .made) (evaluated .additions) (evaluated .scale)
+
+-- no additions are cut: 16 bits are enough for those of every job
+abbrev pub AdditionsFit : Type 0
+AdditionsFit = (frame : List ℕ) (calls : List Call) → frame-refusal frame ≡ 0 → additions-made frame calls < 2 ^ 16
 
 -- ---- em_write_frame: what the frame writer answers and leaves. The count is the frame's bytes
 

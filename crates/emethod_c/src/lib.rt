@@ -1,7 +1,7 @@
 // The library for host tools in other languages: functions over numbers and lent memory, built by
 // `rt staticlib emethod_c`. emethod.h beside this crate's src/ declares them for C. Each answers one number
-// that carries the refusal, the row, a count and, of a frame that it loads, the scale, and asks nothing of
-// its caller.
+// that carries the refusal, the row, a count, of a frame that it loads the scale, and of an evaluation the
+// additions, and asks nothing of its caller.
 ghost use mathlib.Core.Path.{_≡_};
 ghost use mathlib.Core.List.{_++_, map};
 ghost use Prim.Native.Nat.{_+_, _<_, _≤_};
@@ -12,16 +12,20 @@ ghost use Rattle.job.specs.Header.{Limits};
 ghost use Rattle.frame.specs.Frame.{frame-writer-answer, frame-writer-buffer};
 ghost use Rattle.trace.specs.Inner.{digits-from};
 ghost use Rattle.state.specs.State.{all-steps, digit-places};
-ghost use Rattle.emethod_c.specs.Foreign.{if-accepted, answer-of, scaled-answer-of, check-answer, Evaluates, header, frame-answer, job-sums-answer, job-sums-list, job-trace-answer, job-trace-buffer, header-words, words-of, word-count, words-answer, words-left, most-words};
+ghost use Rattle.emethod_c.specs.Foreign.{if-accepted, answer-of, scaled-answer-of, counted-answer-of, check-answer, Evaluates, header, frame-answer, job-sums-answer, job-sums-list, job-trace-answer, job-trace-buffer, header-words, words-of, word-count, words-answer, words-left, most-words};
 use job::Header;
 use job::ROWS;
 use state::DIGITS;
 
 const FIELD: usize = 256; // the refusal, the row and the scale have 8 bits each in an answer
 
-const COUNTS: usize = 1099511627776; // 2^40: the count has the 40 bits above the refusal and the row
+const COUNTS: usize = 16777216; // 2^24: the count has the 24 bits above the refusal and the row
 
-const SCALES: u64 = 72057594037927936; // 2^56: the scale has the 8 bits above the count
+const ADDITIONS: u64 = 1099511627776; // 2^40: the additions stand above the count
+
+const MOST_ADDITIONS: usize = 65536; // 2^16: and have 16 bits
+
+const SCALES: u64 = 72057594037927936; // 2^56: the scale has the 8 bits above them
 
 // The number where there is no refusal, else 0.
 fn if_accepted(refusal: usize, number: usize) -> usize
@@ -46,6 +50,14 @@ fn scaled_answer(refusal: usize, row: usize, count: usize, scale: usize) -> u64
     answer(refusal, row, count) + SCALES * ((accepted % FIELD) as u64)
 }
 
+// The five numbers in one.
+fn counted_answer(refusal: usize, row: usize, count: usize, additions: usize, scale: usize) -> u64
+    ensures { λ r. ⌜ r ≡ counted-answer-of refusal row count additions scale ⌝ }
+{
+    let accepted = if_accepted(refusal, additions);
+    scaled_answer(refusal, row, count, scale) + ADDITIONS * ((accepted % MOST_ADDITIONS) as u64)
+}
+
 // Loads a frame and lets it go.
 #[no_mangle]
 pub extern "C" fn em_check_frame(frame: &[u8]) -> u64
@@ -65,7 +77,7 @@ pub extern "C" fn em_evaluate(frame: &[u8], budget: u64, readings: &mut [i64]) -
 {
     let budgets = [budget; 1];
     let e = accuracy::evaluate(frame, &budgets, readings);
-    scaled_answer(e.refusal, e.row, e.made, e.scale)
+    counted_answer(e.refusal, e.row, e.made, e.additions, e.scale)
 }
 
 // Writes a frame of the fields and the numbers.

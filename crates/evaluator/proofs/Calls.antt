@@ -1,6 +1,6 @@
 -- What advance and readings answer, over the locals of their code: by what they are refused, and what they
 -- give and leave. Cited by the proofs of `advance` and `readings`.
-use mathlib.Core.Path.{_≡_, sym, ap, _∙_}
+use mathlib.Core.Path.{_≡_, sym, ap, ap₂, _∙_}
 use mathlib.Core.Bool.{true, cond}
 use mathlib.Core.List.{List, [], _∷_, _++_}
 use mathlib.Core.Logic.{_⊎_, inl, inr}
@@ -19,7 +19,8 @@ use Rattle.job.proofs.Refusal.{numbered, accepted-exactly, refused-before, acce
 use Rattle.state.specs.State.{PassesLimits, state-checks, state-last}
 use Rattle.state.specs.declared.State.{State}
 use Rattle.evaluator.specs.Evaluator.{no-budget, all-made, smaller, advance-checks, advance-refusal, steps-made, advanced, state-reading, readings-list-too-short, readings-checks, readings-refusal, readings-list}
-use Rattle.stepping.specs.Steps.{steps}
+use Rattle.stepping.specs.Steps.{steps, steps-additions}
+use Rattle.stepping.proofs.Additions.{no-additions}
 use Rattle.evaluator.proofs.Kept.{passes-exactly}
 
 -- ---- checks after the state's
@@ -50,14 +51,17 @@ module _ (s : State) (budget bad refusal : ℕ) (checked : bad ≡ first-refusal
   unfolding advance-checks
   refusal-is = answer ∙ refused-then (state-checks s) ((22, no-budget budget) ∷ (21, all-made s) ∷ []) bad tt checked
 
-  pub advance-refuses : (refusal ≡ 0 → ⊥) → record { refusal = refusal; made = 0; state = s } ≡ advanced s budget
+  pub advance-refuses : (refusal ≡ 0 → ⊥) → record { refusal = refusal; made = 0; additions = 0; state = s } ≡ advanced s budget
   unfolding advanced steps-made steps
-  advance-refuses h = rw (← refusal-is, ne-eqb refusal 0 h)
+  advance-refuses h =
+      rw (← refusal-is, ne-eqb refusal 0 h)
+      (ap (λ (a : ℕ). record { refusal = refusal; made = 0; additions = a; state = s }) (sym (no-additions s)))
 
-  pub advance-makes : (last made : ℕ) (t : State) → refusal ≡ 0 → last ≡ state-last s → made ≡ smaller budget (last - s .k) → t ≡ steps s made
-      → record { refusal = refusal; made = made; state = t } ≡ advanced s budget
+  pub advance-makes : (last made a : ℕ) (t : State) → refusal ≡ 0 → last ≡ state-last s → made ≡ smaller budget (last - s .k) → a ≡ steps-additions s made → t ≡ steps s made
+      → record { refusal = refusal; made = made; additions = a; state = t } ≡ advanced s budget
   unfolding advanced steps-made
-  advance-makes last made t h end em et = rw (← refusal-is, eq-eqb refusal 0 h, ← (rw end at em)) (ap (λ (t : State). record { refusal = refusal; made = made; state = t }) et)
+  advance-makes last made a t h end em ea et =
+      rw (← refusal-is, eq-eqb refusal 0 h, ← (rw end at em)) (ap₂ (λ (a : ℕ) (t : State). record { refusal = refusal; made = made; additions = a; state = t }) ea et)
 
   -- where nothing is refused the state is busy and passes its limits, and steps are left
   pub advance-takes : refusal ≡ 0 → (s .busy ≡ true) × PassesLimits s × (s .k < state-last s)

@@ -14,7 +14,8 @@ use Rattle.system.specs.Rows.{first-row-from}
 use Rattle.system.specs.System.{curve-entry, matrix, right-side}
 use Rattle.scale.specs.Scale.{every}
 use Rattle.frame.specs.Frame.{frame-checks}
-use Rattle.stepping.specs.Steps.{stepped-digits, stepped-residuals, steps, one-step}
+use Rattle.additions.specs.Additions.{step-additions}
+use Rattle.stepping.specs.Steps.{stepped-digits, stepped-residuals, steps, one-step, steps-additions}
 use Rattle.recurrence.specs.Recurrence.{shifted, next-digit, next-residual, reading, select, rounded, estimate, cut-down, digit-size}
 use Rattle.state.specs.State.{beyond, fresh, breaks-limit, SameBelow}
 use Rattle.state.specs.declared.State.{State}
@@ -45,9 +46,9 @@ lengths-A = record { residuals = refl; digits = refl }
 -- ---- what the definitions give of the job as load makes it
 
 after-A : (advanced job-A 3 .refusal ≡ 0) × (advanced job-A 3 .made ≡ 3) × (advanced (advanced job-A 3 .state) 9 .made ≡ 2)
-    × (advanced (advanced job-A 3 .state) 9 .state .header .n ≡ 2)
-unfolding job-A advanced advance-checks steps-made steps one-step fresh breaks-limit beyond curve-entry matrix right-side first-row-from every weight total dot sum list-from stores stepped-digits stepped-residuals shifted next-digit next-residual select rounded estimate cut-down digit-size
-after-A = (refl, refl, refl, refl)
+    × (advanced (advanced job-A 3 .state) 9 .state .header .n ≡ 2) × (advanced job-A 3 .additions ≡ 1)
+unfolding job-A advanced advance-checks steps-made steps one-step steps-additions step-additions fresh breaks-limit beyond curve-entry matrix right-side first-row-from every weight total dot sum list-from stores stepped-digits stepped-residuals shifted next-digit next-residual select rounded estimate cut-down digit-size
+after-A = (refl, refl, refl, refl, refl)
 
 last-A : (entry (advanced (advanced job-A 3 .state) 9 .state .digits) 4 0 ≡ negsuc 0)
     × (readings-list (advanced job-A 3 .state) (pos 9 ∷ pos 9 ∷ pos 9 ∷ []) ≡ pos 2 ∷ pos 4 ∷ pos 9 ∷ [])
@@ -58,9 +59,11 @@ last-A = (refl, refl, refl)
 -- ---- and from the statements, of the other
 
 module _ (below : AdvanceBelow) where
-  -- three steps, and then the two that are left
-  first-A : (advanced spoilt-A 3 .refusal ≡ 0) × (advanced spoilt-A 3 .made ≡ 3)
-  first-A = let x = below job-A spoilt-A 3 alike-A in (sym (x .refusal) ∙ after-A .0, sym (x .made) ∙ after-A .1)
+  -- three steps with one addition, and then the two that are left
+  first-A : (advanced spoilt-A 3 .refusal ≡ 0) × (advanced spoilt-A 3 .made ≡ 3) × (advanced spoilt-A 3 .additions ≡ 1)
+  first-A =
+      let x = below job-A spoilt-A 3 alike-A in
+      (sym (x .refusal) ∙ after-A .0, sym (x .made) ∙ after-A .1, sym (x .additions lengths-A) ∙ after-A .4)
 
   alike-then : SameBelow (advanced job-A 3 .state) (advanced spoilt-A 3 .state)
   alike-then = below job-A spoilt-A 3 alike-A .state lengths-A
@@ -95,7 +98,7 @@ module _ (zeros : LoadZeros) where
       (x .matrix 2 0 (omega arith) (omega arith) (inl (omega arith)), x .residuals 2 (omega arith) (omega arith), x .digits 0 2 (omega arith) (omega arith) (omega arith))
 
 -- the statements are proved
-pub past-order-A : (advanced spoilt-A 3 .made ≡ 3) × (entry (advanced spoilt-A 3 .state .g) 2 0 ≡ pos 7)
+pub past-order-A : (advanced spoilt-A 3 .made ≡ 3) × (advanced spoilt-A 3 .additions ≡ 1) × (entry (advanced spoilt-A 3 .state .g) 2 0 ≡ pos 7)
     × (readings-list (advanced spoilt-A 3 .state) (pos 9 ∷ pos 9 ∷ pos 9 ∷ []) ≡ pos 2 ∷ pos 4 ∷ pos 9 ∷ [])
     × (entry (loaded frame-A .state .g) 2 0 ≡ pos 0)
-past-order-A = (first-A advance-below .1, kept-A advance-keeps .0, readings-A advance-below readings-below .0, zero-A load-zeros .0)
+past-order-A = (first-A advance-below .1, first-A advance-below .2, kept-A advance-keeps .0, readings-A advance-below readings-below .0, zero-A load-zeros .0)

@@ -1,5 +1,5 @@
 -- Readings by Horner's rule: a reading of j steps is below r^j, so nothing leaves 64 bits. Cited by the
--- proofs of `reading`, `put_readings` and `readings`.
+-- proofs of `reading`, `two_readings`, `put_readings` and `readings`.
 use mathlib.Core.Path.{_≡_, refl, ap₂, _∙_}
 use mathlib.Core.List.{List}
 use Prim.Native.Nat.{ℕ, zero, suc, _+_, _*_, _-_, _^_, _<_, _≤_}
@@ -11,7 +11,7 @@ use lib.Pow.{pow-mono}
 use mir.Syntax.{w8, w64}
 use mir.Val.{SFits, toZ, ofZ}
 use Rattle.integers.proofs.Absolute.{abs-add, abs-mul}
-use Rattle.integers.specs.Flat.{entry}
+use Rattle.integers.specs.Flat.{at, entry}
 use Rattle.integers.proofs.Power.{pow-pow}
 use Rattle.integers.proofs.Machine.{Machine, known, bounded, cast-is, read-i8, read-i64, machine-add, machine-fits, machine-eq}
 use Rattle.job.specs.Header.{digit-bits, radix}
@@ -97,3 +97,7 @@ module _ {ds : List ℤ} {i k r : ℕ} (h : MayRead ds i k r) where
       pub reading-next : toZ w64 (ofZ w64 (toZ w64 (ofZ w64 (toZ w64 r *ℤ toZ w64 y)) +ℤ toZ w64 (ofZ w64 x))) ≡ reading r (digits-of ds) (j + 1) i
       unfolding reading
       reading-next = machine-eq (read-i64 the-sum) tt (rw add-one refl)
+
+-- ---- the digit of the row after i, at the place that the code adds up
+pub next-row : (ds : List ℤ) (j i : ℕ) {x : ℤ} → x ≡ toZ w8 (ofZ w8 (at ds (16 * j + i + 1))) → x ≡ toZ w8 (ofZ w8 (entry ds j (i + 1)))
+next-row ds j i e = let p : 16 * j + i + 1 ≡ 16 * j + (i + 1) = omega arith in rw p at e

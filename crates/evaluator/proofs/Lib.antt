@@ -4,5 +4,7 @@ pub mod Horner
 pub mod Kept
 pub mod Loading
 pub mod PastOrder
+pub mod Additions
 pub mod ExamplePastOrder
+pub mod ExampleAdditions
 pub mod Theorems

@@ -15,6 +15,8 @@ use Rattle.integers.proofs.Flat.{getD-list-from}
 use Rattle.integers.proofs.Stores.{length-stores, stores-ext, stores-other}
 use Rattle.integers.proofs.Maximum.{le-or-lt}
 use Rattle.integers.proofs.Product.{dot-ext}
+use Rattle.integers.proofs.Sum.{total-ext}
+use Rattle.additions.proofs.Laws.{step-additions-ext}
 use Rattle.job.specs.Header.{radix}
 use Rattle.job.proofs.Limits.{last-small}
 use Rattle.system.proofs.Arrays.{past-order}
@@ -22,7 +24,7 @@ use Rattle.job.specs.Refusal.{Check, first-refusal}
 use Rattle.job.proofs.Refusal.{refused-before}
 use Rattle.system.specs.System.{matrix-of, right-side-of}
 use Rattle.job.specs.declared.Header.{Header}
-use Rattle.stepping.specs.Steps.{finer, stepped-digits, stepped-residuals, last-digits, chosen-digits, residuals-left, one-step, steps}
+use Rattle.stepping.specs.Steps.{finer, stepped-digits, stepped-residuals, last-digits, chosen-digits, residuals-left, one-step, steps, next-additions, steps-additions}
 use Rattle.recurrence.specs.Recurrence.{shifted, next-digit, next-residual, reading, select}
 use Rattle.stepping.proofs.Stepped.{length-stepped-residuals, stepped-residual-past}
 use Rattle.header.specs.Header.{header-of}
@@ -95,6 +97,11 @@ before-alike : (n k : ℕ) (ds ds′ : List ℤ) → k ≤ all-steps → ((j i :
 before-alike n zero ds ds′ l h = refl
 before-alike n (suc k) ds ds′ l h = flat-vector-alike n (entry ds k) (entry ds′ k) (λ i m. h k i (omega arith) m)
 
+last-alike : (n k : ℕ) (ds ds′ : List ℤ) → k ≤ all-steps → ((j i : ℕ) → j < all-steps → i < n → entry ds j i ≡ entry ds′ j i)
+    → (i : ℕ) → i < n → digits-of ds k i ≡ digits-of ds′ k i
+last-alike n zero ds ds′ l h i m = refl
+last-alike n (suc k) ds ds′ l h i m = h k i (omega arith) m
+
 -- ---- one step of states that agree below the order
 
 module _ {s t : State} (e : SameBelow s t) (l : s .k ≤ all-steps) where
@@ -144,6 +151,17 @@ steps-alike {s} (suc j) l e size =
     let p = steps-alike j (omega arith) e size in
     (step-alike (p .0) (omega (arith, steps-k s j)) (p .1), step-lengths (p .0) (omega (arith, steps-k s j)) (p .1))
 
+-- they cost the same
+next-alike : {s t : State} → s .k ≤ all-steps → SameBelow s t → next-additions s ≡ next-additions t
+next-alike {s} {t} l e =
+    rw (← e .header, ← e .steps)
+    (step-additions-ext (s .header .n) (entry (s .g)) (entry (t .g)) _ _ (e .matrix) (last-alike (s .header .n) (s .k) (s .digits) (t .digits) l (e .digits)))
+
+additions-alike : {s t : State} (j : ℕ) → s .k + j ≤ all-steps → SameBelow s t → SameLengths s t → steps-additions s j ≡ steps-additions t j
+unfolding steps-additions
+additions-alike {s} j l e size =
+    total-ext j _ _ (λ u m. next-alike (omega (arith, steps-k s u)) (steps-alike u (omega arith) e size .0))
+
 -- ---- what steps keep, with room or without
 
 step-past : (s : State) → SamePast s (one-step s)
@@ -183,7 +201,7 @@ accepted-first xs ys e = by-case (le-or-lt (first-refusal xs) 0)
     by-case (inr l) = absurd (omega (arith, refused-before xs ys (first-refusal xs) l refl))
 
 -- a state that advance takes passes its limits, and so does one whose readings are given
-taken-passes-limits : (s : State) (ys : List Check) → first-refusal (state-checks s ++ ys) ≡ 0 → PassesLimits s
+pub taken-passes-limits : (s : State) (ys : List Check) → first-refusal (state-checks s ++ ys) ≡ 0 → PassesLimits s
 taken-passes-limits s ys e = passes-exactly s .0 (accepted-first (state-checks s) ys e) .1
 
 module _ {s t : State} (budget : ℕ) (e : SameBelow s t) where
@@ -206,6 +224,16 @@ module _ {s t : State} (budget : ℕ) (e : SameBelow s t) where
       let p = taken-passes-limits s ((22, no-budget budget) ∷ (21, all-made s) ∷ []) z in
       omega (arith, made-smaller s budget z, smaller-most budget (state-last s - s .k), p .steps, last-small (s .header) (s .scale) (p .scaled))
 
+  counted-alike : SameLengths s t → advanced s budget .additions ≡ advanced t budget .additions
+  unfolding advanced
+  counted-alike size = by-case (le-or-lt (advance-refusal s budget) 0)
+    where
+      by-case : (advance-refusal s budget ≤ 0) ⊎ (0 < advance-refusal s budget) → advanced s budget .additions ≡ advanced t budget .additions
+      by-case (inl l) = rw (← made-alike) (additions-alike (steps-made s budget) (made-room (omega arith)) e size)
+      by-case (inr l) =
+          let r : 0 < advance-refusal t budget = rw advance-refused-alike at l in
+          refused-advance s budget l .2 ∙ sym (refused-advance t budget r .2)
+
   alike-after : SameLengths s t
       → SameBelow (advanced s budget .state) (advanced t budget .state) × SameLengths (advanced s budget .state) (advanced t budget .state)
   unfolding advanced
@@ -224,6 +252,7 @@ advance-below s t budget e =
     record {
       refusal = advance-refused-alike budget e;
       made = made-alike budget e;
+      additions = counted-alike budget e;
       state = λ size. alike-after budget e size .0;
       lengths = λ size. alike-after budget e size .1;
     }

@@ -16,6 +16,7 @@ use Rattle.state.specs.State.{idle-state, fresh, state-last}
 use Rattle.state.specs.declared.State.{State}
 use Rattle.evaluator.specs.Evaluator.{loaded, smaller, advance-checks, advance-refusal, steps-made, advanced, state-reading, readings-checks, readings-refusal, readings-list}
 use Rattle.stepping.specs.Steps.{steps}
+use Rattle.stepping.proofs.Additions.{no-additions}
 use Rattle.evaluator.proofs.Calls.{smaller-most}
 use Rattle.stepping.proofs.Steps.{steps-busy, steps-k}
 use Rattle.evaluator.proofs.Kept.{passes-exactly}
@@ -52,7 +53,7 @@ pub refused-advance : RefusedAdvance
 unfolding advanced steps steps-made
 refused-advance s budget h =
     let e = refused-gives (advance-refusal s budget) (smaller budget (state-last s - s .k)) 0 h in
-    (rw e, e)
+    (rw e, e, rw e (no-additions s))
 
 pub refused-readings : RefusedReadings
 unfolding readings-list

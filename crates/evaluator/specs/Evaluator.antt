@@ -10,7 +10,7 @@ use Rattle.header.specs.Header.{header-of}
 use Rattle.recurrence.specs.Recurrence.{reading}
 use Rattle.state.specs.{State.digits-of, State.idle-state, State.fresh, State.state-checks, State.state-last, declared.State.State}
 use Rattle.evaluator.specs.{declared.Loaded.Loaded, declared.Advanced.Advanced}
-use Rattle.stepping.specs.Steps.{steps}
+use Rattle.stepping.specs.Steps.{steps, steps-additions}
 
 -- ---- load: refused as the frame is, 1 to 8 and 15
 
@@ -45,12 +45,13 @@ smaller a b = cond (leb a b) a b
 unfoldable pub steps-made : State → ℕ → ℕ
 steps-made s budget = cond (eqb (advance-refusal s budget) 0) (smaller budget (state-last s - s .k)) 0
 
--- with a refusal, 0 steps: the state as it went in
+-- with a refusal, 0 steps and no addition: the state as it went in
 unfoldable pub advanced : State → ℕ → Advanced
 advanced s budget =
     record {
       refusal = advance-refusal s budget;
       made = steps-made s budget;
+      additions = steps-additions s (steps-made s budget);
       state = steps s (steps-made s budget);
     }
 

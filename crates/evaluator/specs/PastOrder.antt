@@ -45,10 +45,11 @@ LoadZeros = (bytes : List ℕ) → ZeroPast (loaded bytes .state)
 
 -- ---- advance
 
--- the same refusal and the same count with every budget, and states that agree below the order again
+-- the same refusal and the same counts with every budget, and states that agree below the order again
 pub record AdvancedAlike (s t : State) (budget : ℕ) : Type 0 where
   pub refusal : advanced s budget .refusal ≡ advanced t budget .refusal
   pub made : advanced s budget .made ≡ advanced t budget .made
+  pub additions : SameLengths s t → advanced s budget .additions ≡ advanced t budget .additions
   pub state : SameLengths s t → SameBelow (advanced s budget .state) (advanced t budget .state)
   -- so that the same can be said of the next call
   pub lengths : SameLengths s t → SameLengths (advanced s budget .state) (advanced t budget .state)

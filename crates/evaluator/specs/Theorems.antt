@@ -5,11 +5,12 @@
 use mathlib.Core.{Path._≡_, List.List}
 use Prim.Native.Nat.{ℕ, _+_, _-_, _<_, _≤_}
 use lib.{IntN.ℤ, ListN.length, ListN.take, ListN.drop}
-use Rattle.integers.specs.Flat.{list-from}
+use Rattle.integers.specs.Flat.{entry, list-from}
+use Rattle.additions.specs.Additions.{additions}
 use Rattle.job.specs.Refusal.{Decides, first-refusal}
 use Rattle.header.specs.Header.{header-of}
 use Rattle.frame.specs.Frame.{frame-numbers, frame-checks, frame-refusal}
-use Rattle.state.specs.{State.idle-state, State.fresh, State.state-checks, State.state-last, declared.State.State}
+use Rattle.state.specs.{State.digits-of, State.idle-state, State.fresh, State.state-checks, State.state-last, declared.State.State}
 use Rattle.stepping.specs.Steps.{steps}
 use Rattle.evaluator.specs.Evaluator.{loaded, smaller, advance-checks, advanced, state-reading, readings-checks, readings-refusal, readings-list}
 
@@ -33,7 +34,9 @@ RefusedLoad = (s : List ℕ) → 0 < loaded s .refusal → loaded s .state ≡ i
 
 -- a refused advance gives the state back and counts 0
 abbrev pub RefusedAdvance : Type 0
-RefusedAdvance = (s : State) (budget : ℕ) → 0 < advanced s budget .refusal → (advanced s budget .state ≡ s) × (advanced s budget .made ≡ 0)
+RefusedAdvance =
+    (s : State) (budget : ℕ) → 0 < advanced s budget .refusal →
+    (advanced s budget .state ≡ s) × (advanced s budget .made ≡ 0) × (advanced s budget .additions ≡ 0)
 
 -- a refused readings call leaves the list
 abbrev pub RefusedReadings : Type 0
@@ -52,6 +55,13 @@ MadeGrows = (s : State) (budget : ℕ) → advanced s budget .state .k ≡ s .k 
 -- it is as many steps as the budget allows and as are left
 abbrev pub MadeSmaller : Type 0
 MadeSmaller = (s : State) (budget : ℕ) → advanced s budget .refusal ≡ 0 → advanced s budget .made ≡ smaller budget (state-last s - s .k)
+
+-- The additions that it answers are by how much those of all steps grow, in the digits that the state comes
+-- back with, whether or not there is a refusal: so each step's count once, and to the call that makes it.
+abbrev pub AdditionsGrow : Type 0
+AdditionsGrow =
+    (s : State) (budget : ℕ) → let t = advanced s budget .state in let all = additions (s .header .n) (entry (s .g)) (digits-of (t .digits)) in
+    all (t .k) ≡ all (s .k) + advanced s budget .additions
 
 -- readings gives one reading a row, in row order
 abbrev pub ReadingsFront : Type 0

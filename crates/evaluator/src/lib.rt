@@ -4,9 +4,9 @@
 // `load` makes the state of a job frame: the job's matrix and right-hand sides, with 0 steps made. It is
 // refused as the frame is; the state is then the idle one.
 //
-// `advance` makes as many steps as the budget allows and as are left, and answers how many. Refused, it gives
-// the state back as it went in and counts 0 steps. The state is looked at once, before the first step: a step
-// keeps what 24 asks. No step copies the matrix.
+// `advance` makes as many steps as the budget allows and as are left, and answers how many, and how many
+// additions they cost. Refused, it gives the state back as it went in and counts 0 steps and 0 additions. The
+// state is looked at once, before the first step: a step keeps what 24 asks. No step copies the matrix.
 //
 // `readings` puts one reading a row, in row order, into the list; the words past the n-th keep their
 // values. Refused, it leaves all words as they were.
@@ -20,7 +20,7 @@
 ghost use mathlib.Core.Path.{_≡_};
 ghost use mathlib.Core.Bool.{true, cond};
 ghost use mathlib.Core.List.{[], _∷_, _++_};
-ghost use Prim.Native.Nat.{_<_, _≤_};
+ghost use Prim.Native.Nat.{_+_, _<_, _≤_};
 ghost use lib.Dec.{ltb, leb};
 ghost use lib.ListN.{length, drop};
 ghost use Rattle.integers.specs.Flat.{list-from};
@@ -43,10 +43,12 @@ pub struct Loaded {
     pub state: State,
 }
 
-// What advance answers: a refusal number, 0 where there is none, the steps made, and the state.
+// What advance answers: a refusal number, 0 where there is none, the steps made, their additions, and the
+// state.
 pub struct Advanced {
     pub refusal: usize,
     pub made: u64,
+    pub additions: usize,
     pub state: State,
 }
 
@@ -131,11 +133,12 @@ pub fn advance(s: State, budget: u64) -> Advanced
     let bad = state::check(t.busy, h, scale, k, &t.g, &t.z, &t.digits);
     let refusal = advance_refusal(bad, budget, k, h, scale);
     let mut made: u64 = 0;
+    let mut additions: usize = 0;
     if refusal == 0 {
         made = smaller(budget, (job::last_step(h, scale) - k) as u64);
         let mut z = t.z;
         let mut digits = t.digits;
-        stepping::make_steps(h, scale, k, made as usize, &t.g, &mut z, &mut digits);
+        additions = stepping::make_steps(h, scale, k, made as usize, &t.g, &mut z, &mut digits);
         t.z = z;
         t.digits = digits;
         t.k = k + made as usize;
@@ -143,6 +146,7 @@ pub fn advance(s: State, budget: u64) -> Advanced
     Advanced {
         refusal,
         made,
+        additions,
         state: t,
     }
 }
@@ -160,6 +164,24 @@ fn reading(digits: &[i8; DIGITS], i: usize, k: usize, r: usize) -> i64
         j += 1;
     }
     y
+}
+
+// The readings of rows i and i + 1 after k steps. Two rows at once: the products of one need not wait for
+// those of the other.
+fn two_readings(digits: &[i8; DIGITS], i: usize, k: usize, r: usize) -> [i64; 2]
+    requires { ⌜ MayRead (now digits) i k r × MayRead (now digits) (i + 1) k r ⌝ }
+    ensures { λ y. ⌜ y ≡ reading r (digits-of (now (digits .entry))) k i ∷ reading r (digits-of (now (digits .entry))) k (i + 1) ∷ [] ⌝ }
+{
+    let radix = r as i64;
+    let mut first: i64 = 0;
+    let mut second: i64 = 0;
+    let mut j: usize = 0;
+    while j < k {
+        first = radix * first + integers::widen(digits[16 * j + i]);
+        second = radix * second + integers::widen(digits[16 * j + i + 1]);
+        j += 1;
+    }
+    [first, second]
 }
 
 // What readings is refused by: the state's number where it has one, then 23, where a list of `room` words
@@ -185,9 +207,14 @@ pub fn put_readings(h: Header, k: usize, digits: &[i8; DIGITS], out: &mut [i64])
     let n = h.n;
     let r = job::radix_by_shift(h.code);
     let mut i: usize = 0;
-    while i < n {
+    while i + 1 < n {
+        let two = two_readings(digits, i, k, r);
+        out[i] = two[0];
+        out[i + 1] = two[1];
+        i += 2;
+    }
+    if i < n {
         out[i] = reading(digits, i, k, r);
-        i += 1;
     }
 }
 

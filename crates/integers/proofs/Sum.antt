@@ -66,6 +66,22 @@ sum-scale n c f = sum-lin n f f (λ k. c *ℤ f k) c (pos 0) (λ k l. once (f k)
     once : (a : ℤ) → c *ℤ a ≡ c *ℤ a +ℤ pos 0 *ℤ a
     once a = solve (c ∷ a ∷ []) (search polys depth 9) (search polys depth 9) tt
 
+pub total-add : (n : ℕ) (f g : ℕ → ℕ) → total n (λ k. f k + g k) ≡ total n f + total n g
+unfolding total
+total-add zero f g = refl
+total-add (suc n) f g = omega (arith, total-add n f g)
+
+pub total-scale : (n : ℕ) (f : ℕ → ℕ) (c : ℕ) → total n (λ k. f k * c) ≡ total n f * c
+unfolding total
+total-scale zero f c = omega arith
+total-scale (suc n) f c = omega (arith, total-scale n f c)
+
+-- a total is the sum of the same numbers
+pub sum-pos : (n : ℕ) (f : ℕ → ℕ) → sum n (λ k. pos (f k)) ≡ pos (total n f)
+unfolding sum total
+sum-pos zero f = refl
+sum-pos (suc n) f = rw (sum-pos n f)
+
 -- the terms below n, then the k terms from n on
 pub sum-split : (n k : ℕ) (f : ℕ → ℤ) → sum (n + k) f ≡ sum n f +ℤ sum k (λ j. f (n + j))
 unfolding sum
@@ -74,11 +90,23 @@ sum-split n (suc k) f =
     let e : n + suc k ≡ suc (n + k) = omega arith in
     rw (e, sum-split n k f) (+ℤ-assoc (sum n f) (sum k (λ j. f (n + j))) (f (n + k)))
 
+pub total-split : (n k : ℕ) (f : ℕ → ℕ) → total (n + k) f ≡ total n f + total k (λ j. f (n + j))
+unfolding total
+total-split n zero f = let e : n + 0 ≡ n = omega arith in rw e (omega arith)
+total-split n (suc k) f =
+    let e : n + suc k ≡ suc (n + k) = omega arith in
+    rw (e, total-split n k f) (omega arith)
+
 -- the first term apart
 pub sum-head : (n : ℕ) (f : ℕ → ℤ) → sum (suc n) f ≡ f 0 +ℤ sum n (λ k. f (suc k))
 unfolding sum
 sum-head zero f = rw (+ℤ-idl (f 0), +ℤ-idr)
 sum-head (suc n) f = rw (sum-head n f) (+ℤ-assoc (f 0) (sum n (λ k. f (suc k))) (f (suc n)))
+
+pub total-head : (n : ℕ) (f : ℕ → ℕ) → total (suc n) f ≡ f 0 + total n (λ k. f (suc k))
+unfolding total
+total-head zero f = omega arith
+total-head (suc n) f = omega (arith, total-head n f)
 
 -- ---- sums with few terms other than 0
 
@@ -86,6 +114,11 @@ pub sum-none : (n : ℕ) (f : ℕ → ℤ) → ((k : ℕ) → k < n → f k ≡ 
 unfolding sum
 sum-none zero f h = refl
 sum-none (suc n) f h = rw (sum-none n f (λ k l. h k (omega arith)), h n (omega arith))
+
+pub total-none : (n : ℕ) (f : ℕ → ℕ) → ((k : ℕ) → k < n → f k ≡ 0) → total n f ≡ 0
+unfolding total
+total-none zero f h = refl
+total-none (suc n) f h = omega (arith, total-none n f (λ k l. h k (omega arith)), h n (omega arith))
 
 -- every term but that of i is 0
 pub sum-one : (n i : ℕ) (f : ℕ → ℤ) → i < n → ((k : ℕ) → k < n → (k ≡ i → ⊥) → f k ≡ pos 0) → sum n f ≡ f i
@@ -98,6 +131,10 @@ sum-one (suc n) i f h others = by-case (le-or-lt n i) (λ l. sum-one n i f l (λ
         let e : n ≡ i = omega arith in
         rw (sum-none n f (λ k m. others k (omega arith) (λ q. omega arith)), +ℤ-idl (f n)) (ap f e)
     by-case (inr l) ih = rw (ih l, others n (omega arith) (λ q. omega arith), +ℤ-idr (f i))
+
+pub total-one : (n i : ℕ) (f : ℕ → ℕ) → i < n → ((k : ℕ) → k < n → (k ≡ i → ⊥) → f k ≡ 0) → total n f ≡ f i
+total-one n i f h others =
+    ap natAbs (sym (sum-pos n f) ∙ sum-one n i (λ k. pos (f k)) h (λ k l q. ap pos (others k l q)))
 
 -- every term but those of i and j is 0
 pub sum-two : (n i j : ℕ) (f : ℕ → ℤ) → i < j → j < n → ((k : ℕ) → k < n → (k ≡ i → ⊥) → (k ≡ j → ⊥) → f k ≡ pos 0) → sum n f ≡ f i +ℤ f j
@@ -117,6 +154,11 @@ pub sum-swap : (n m : ℕ) (f : ℕ → ℕ → ℤ) → sum n (λ i. sum m (f i
 unfolding sum
 sum-swap zero m f = sym (sum-none m (λ j. pos 0) (λ k l. refl))
 sum-swap (suc n) m f = rw (sum-swap n m f) (sym (sum-add m (λ j. sum n (λ i. f i j)) (f n)))
+
+pub total-swap : (n m : ℕ) (f : ℕ → ℕ → ℕ) → total n (λ i. total m (f i)) ≡ total m (λ j. total n (λ i. f i j))
+unfolding total
+total-swap zero m f = sym (total-none m (λ j. 0) (λ k l. refl))
+total-swap (suc n) m f = rw (total-swap n m f) (sym (total-add m (λ j. total n (λ i. f i j)) (f n)))
 
 -- ---- how large they are
 

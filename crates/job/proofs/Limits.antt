@@ -4,7 +4,7 @@ use mathlib.Core.Path.{_≡_, refl, sym, ap, _∙_}
 use mathlib.Core.Bool.{Bool, true, false, not}
 use mathlib.Core.Logic.{_↔_, _⊎_, inl, inr}
 use Prim.Native.Nat.{ℕ, zero, suc, _+_, _*_, _-_, _/_, _^_, _<_, _≤_}
-use native.Mathlib.Nat.{div-lt-iff-lt-mul, mul-le-mul, mul-assoc, pow-zero, pow-suc}
+use native.Mathlib.Nat.{div-lt-iff-lt-mul, mul-le-mul}
 use native.Mathlib.Omega.{arith}
 use borrow.Author.Tests.{lt-ltb, le-ltb, le-leb, leb-true, ltb-false, eqb-false, ne-eqb, not-false}
 use lib.Dec.{ltb, leb, eqb}
@@ -165,18 +165,11 @@ few-bits : (code s : ℕ) → code ≤ 3 → s ≤ most-scale code → s * digit
 few-bits zero s l k = omega arith
 few-bits (suc code) s l k = omega (arith, mul-le-mul k l)
 
--- r r^s for the scales 0, 1 and 2
-power-1 : (r : ℕ) → r ≡ r * r ^ 0
-power-1 r = rw (pow-zero r) (omega arith)
-
-only : (r : ℕ) → r ^ 1 ≡ r
-only r = pow-suc r 0 ∙ rw (pow-zero r) (omega arith)
-
-power-2 : (r : ℕ) → r * r ≡ r * r ^ 1
-power-2 r = rw (only r) refl
-
-power-3 : (r : ℕ) → r * r * r ≡ r * r ^ 2
-power-3 r = rw (pow-suc r 1, only r) (mul-assoc r r r)
+-- r r^s is a power of 2 as well
+pub factor-is : (code s : ℕ) → 2 ^ (digit-bits code * (s + 1)) ≡ radix code * radix code ^ s
+factor-is code s =
+    let e : digit-bits code * (s + 1) ≡ digit-bits code + s * digit-bits code = omega arith in
+    rw (e, pow-pow 2 (digit-bits code) s) (pow-add 2 (digit-bits code) (s * digit-bits code))
 
 module _ (h : Header) (s : ℕ) (k : ScaleLimits h s) where
   pub scale-small : s ≤ 2
@@ -196,20 +189,6 @@ module _ (h : Header) (s : ℕ) (k : ScaleLimits h s) where
     -- r^s is a power of 2, and so is the inner unit
     pub scale-bits : (2 ^ (s * digit-bits (h .code)) ≡ scale-factor h s) × (s * digit-bits (h .code) ≤ 4)
     scale-bits = (sym (pow-pow 2 (digit-bits (h .code)) s), few-bits (h .code) s (l .code-most) (k .scale-most))
-
-    -- r r^s as products of r, which x is
-    module _ {x : ℕ} (e : x ≡ radix (h .code)) where
-      pub factors-fit : (x * x ≤ 256) × (x * x * x ≤ 4096)
-      factors-fit = let m : x ≤ 16 = omega (arith, e, radix-most h l) in (mul-le-mul m m, mul-le-mul (mul-le-mul m m) m)
-
-      pub factor-0 : s ≡ 0 → x ≡ radix (h .code) * scale-factor h s
-      factor-0 z = rw (e, z) (power-1 (radix (h .code)))
-
-      pub factor-1 : s ≡ 1 → x * x ≡ radix (h .code) * scale-factor h s
-      factor-1 z = rw (e, z) (power-2 (radix (h .code)))
-
-      pub factor-2 : ¬ s ≡ 0 → ¬ s ≡ 1 → x * x * x ≡ radix (h .code) * scale-factor h s
-      factor-2 a b = let z : s ≡ 2 = omega (arith, scale-small, a, b) in rw (e, z) (power-3 (radix (h .code)))
 
     pub inner-bits : (b : ℕ) → 2 ^ b ≡ scale-factor h s → b ≤ 4 → (2 ^ (h .f + b) ≡ inner-unit h s) × (4 ≤ h .f + b) × (h .f + b ≤ 44)
     inner-bits b e m = (pow-add 2 (h .f) b ∙ rw e, omega (arith, l .fraction-least), omega (arith, l .fraction-most))

@@ -168,20 +168,13 @@ fn scale_bits(h: Header, s: usize) -> usize
     s * (h.code + 1)
 }
 
-// r × r^s: how many units of document 01's w make one of a row's sum. Products, and no shift: the machine
-// then multiplies the sums, which takes it less time than a shift by a number that it does not know.
+// r × r^s: how many units of document 01's w make one of a row's sum. Made by a shift, as the number of
+// `radix_by_shift` is: a product by it then takes no longer than a shift.
 pub fn sum_factor(h: Header, s: usize) -> usize
     requires { ⌜ Limits h × ScaleLimits h s ⌝ }
     ensures { λ q. ⌜ q ≡ radix (h .code) * scale-factor h s ⌝ }
 {
-    let r = radix(h.code);
-    if s == 0 {
-        return r;
-    }
-    if s == 1 {
-        return r * r;
-    }
-    r * r * r
+    integers::pow2((h.code + 1) * (s + 1)) as usize
 }
 
 // The fraction bits of the residuals inside a state: log2 of the inner unit.

@@ -1,7 +1,7 @@
 // Calls on states that no load made: any numbers in any field, and jobs made from cases A and E with an x
 // of 3, of the scales 0 and 1, with random changes, so that some of them pass 24. After each call what its
-// contract says is looked at again, word by word: a refused advance makes 0 steps and gives back every word
-// of the state; an accepted one counts the growth of k, and keeps the header, the scale, the matrix, the
+// contract says is looked at again, word by word: a refused advance makes 0 steps and no addition and gives
+// back every word of the state; an accepted one counts the growth of k, and keeps the header, the scale, the matrix, the
 // digits of the steps before and of the steps still to come, and all that stands past the n-th row; a
 // refused readings keeps every word of the list, and an accepted one keeps the words past the n-th; so do the
 // running sums, with the words that they count. It prints how many calls of advance, of readings and of the
@@ -9,7 +9,7 @@
 // prints `wrong`.
 //
 // Each turn makes the steps of these two jobs as well, by load, advance and readings, by evaluate and by
-// perform, which are to give the same words.
+// perform, which are to give the same words and to count as many additions.
 use emethod::Advanced;
 use emethod::Evaluated;
 use emethod::Header;
@@ -109,10 +109,15 @@ fn random_state(seed: u64) -> State {
     }
 }
 
-// The state of a frame's job after the steps that a budget allows.
-fn job_after(frame: &[u8], budget: u64) -> State {
+// The steps of a frame's job that a budget allows.
+fn first_advance(frame: &[u8], budget: u64) -> Advanced {
     let l: Loaded = emethod::load(frame);
-    let a: Advanced = emethod::advance(l.state, budget);
+    emethod::advance(l.state, budget)
+}
+
+// The state of the job after them.
+fn job_after(frame: &[u8], budget: u64) -> State {
+    let a = first_advance(frame, budget);
     a.state
 }
 
@@ -271,14 +276,14 @@ fn count_right(before: usize, after: usize, made: u64, budget: u64) -> bool {
     (after - before) as u64 == made
 }
 
-// An advance, and whether its answer and its state are right. With a refusal it counts 0 steps and changes no
-// word of the state.
+// An advance, and whether its answer and its state are right. With a refusal it counts 0 steps and 0
+// additions, and changes no word of the state.
 fn advance_right(s: State, budget: u64, tallies: &mut [u64; TALLIES]) -> bool {
     let a = emethod::advance(s, budget);
     tally(tallies, a.refusal);
     let t = a.state;
     if a.refusal != 0 {
-        return a.made == 0 && t.k == s.k && words_kept(s, t, 0);
+        return a.made == 0 && a.additions == 0 && t.k == s.k && words_kept(s, t, 0);
     }
     count_right(s.k, t.k, a.made, budget) && words_kept(s, t, s.header.n)
 }
@@ -339,20 +344,31 @@ fn agrees(e: Evaluated, scale: usize, made: usize, readings: &[i64], list: &[i64
     e.refusal == 0 && e.scale == scale && e.made == made && same_from(readings, list, 0)
 }
 
-// Whether a job of order 2 has the same scale, the same readings and as many steps after two advances by the
-// three ways to make them.
+// Whether a count is the sum of two others.
+fn is_sum(count: usize, first: usize, second: usize) -> bool {
+    if count < first {
+        return false;
+    }
+    count - first == second
+}
+
+// Whether a job of order 2 has the same scale, the same readings, as many steps and as many additions after
+// two advances by the three ways to make them.
 fn ways_agree(frame: &[u8], first: u64, second: u64) -> bool {
     let mut called = [0i64; 2];
     let mut evaluated = [0i64; 2];
     let mut performed = [0i64; 2];
-    let a = emethod::advance(job_after(frame, first), second);
-    let s = a.state;
+    let a = first_advance(frame, first);
+    let b = emethod::advance(a.state, second);
+    let s = b.state;
     let refusal = emethod::readings(s, &mut called);
     let e = emethod::evaluate(frame, &[first, second], &mut evaluated);
     let p = emethod::perform(frame, &[0, first, 0, second, 1, 2], &mut performed);
     refusal == 0
         && agrees(e, s.scale, s.k, &called, &evaluated)
         && agrees(p, s.scale, s.k, &called, &performed)
+        && is_sum(e.additions, a.additions, b.additions)
+        && p.additions == e.additions
 }
 
 // One state, an advance, a readings call and one for the running sums, and the three ways; whether all are

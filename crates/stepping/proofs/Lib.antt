@@ -5,6 +5,7 @@ pub mod ColumnSpan
 pub mod ColumnSum
 pub mod Table
 pub mod Listing
+pub mod Counting
 pub mod Limits
 pub mod Stepped
 pub mod Steps
@@ -12,4 +13,6 @@ pub mod Follow
 pub mod Kept
 pub mod Digits
 pub mod Stepping
+pub mod Counted
+pub mod Additions
 pub mod Example

@@ -11,19 +11,20 @@ use native.Mathlib.Omega.{arith}
 use borrow.Author.Tests.{le-ltb}
 use lib.Dec.{ltb}
 use lib.IntN.{ℤ, pos, natAbs}
-use lib.ListN.{length, replicate, List·getD-eq-default}
+use lib.ListN.{length, getD, replicate, List·getD-eq-default}
 use lib.Pow.{pow-pos}
 use lib.Seq.{ext-getD}
 use Rattle.integers.specs.Flat.{at, stores, flat-vector}
 use Rattle.integers.proofs.Flat.{at-flat-vector, length-list-from, getD-list-from}
 use Rattle.integers.proofs.Stores.{length-stores, stores-ext}
 use Rattle.integers.proofs.Maximum.{le-or-lt}
+use Rattle.additions.specs.Additions.{nonzero}
 use Rattle.job.specs.Header.{radix}
 use Rattle.job.proofs.Limits as limits
 use Rattle.job.specs.declared.Header.{Header}
 use Rattle.selection.specs.Selection.{selection-table}
 use Rattle.stepping.specs.Steps.{filled, last-digits, state-factor, chosen-digits, residuals-left, digits-stored, one-step, steps}
-use Rattle.stepping.specs.Inner.{digit-from, residual-from, MayChoose, row-dot, Summed, MaySumRows, FirstZero, Between, MayStepOnce, Stepped, MayStep}
+use Rattle.stepping.specs.Inner.{digit-from, residual-from, MayChoose, row-dot, Summed, MaySumRows, FirstZero, Counts, Between, MayStepOnce, Stepped, MayStep}
 use Rattle.stepping.proofs.Limits.{KeepsLimits, radix-two, may-sum-rows, may-choose-from}
 use Rattle.stepping.proofs.Chosen.{digit-most}
 use Rattle.stepping.proofs.Digits.{first-zero}
@@ -49,7 +50,7 @@ module _ (n k : ℕ) (ds d : List ℤ) (order : n ≤ 16) (size : length d ≡ 1
           getD-list-from 0 16 (λ i. cond (ltb i n) (row i) (pos 0)) i l ∙ rw (e, le-ltb i n h) (sym (past i h))
       same i l (inr h) = at-flat-vector n row i order h ∙ stored-same n k ds d i h room order
 
-steps-g : (s : State) (j : ℕ) → steps s j .g ≡ s .g
+pub steps-g : (s : State) (j : ℕ) → steps s j .g ≡ s .g
 unfolding steps one-step
 steps-g s zero = refl
 steps-g s (suc j) = steps-g s j
@@ -140,6 +141,10 @@ module _ {s : State} {r q bits : ℕ} {before sums : List ℤ} (a : MayStepOnce 
 
     new-stored : stores (s .digits) (λ i. 16 * s .k + i) (digit-from r q p u (s .z) sums) n ≡ digits-stored n (s .k) (s .digits) new
     new-stored = stores-ext _ _ _ _ n (λ i l. sym (new-row i l))
+
+    -- they are counted, from t₀ on
+    pub new-counted : (t₀ : List ℕ) {t : List ℕ} → Counts n (λ j. getD t₀ j 0 + nonzero (digit-from r q p u (s .z) sums j)) t → Counts n (λ j. getD t₀ j 0 + nonzero (at new j)) t
+    new-counted t₀ h = record { size = h .size; columns = λ j l. h .columns j l ∙ rw (new-row j l) refl }
 
     -- and the step is made: `z` and `ds` have what the choice left, and `sums′` the rows' sums
     pub stepped : {z ds sums′ : List ℤ} → z ≡ filled (residual-from r q p u (s .z) sums) (s .z) n → ds ≡ stores (s .digits) (λ i. 16 * s .k + i) (digit-from r q p u (s .z) sums) n

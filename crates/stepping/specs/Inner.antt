@@ -4,7 +4,8 @@
 use mathlib.Core.{Path._≡_, List.List, Bool.cond}
 use Prim.Native.Nat.{ℕ, _+_, _*_, _^_, _<_, _≤_, _/_, _%_}
 use lib.{IntN.ℤ, IntN.pos, IntN.natAbs, IntN._+ℤ_, IntN._-ℤ_, IntN._*ℤ_, ListN.length, ListN.getD, ListN.replicate, Dec.ltb}
-use Rattle.integers.specs.{Flat.at, Flat.entry, Sum.sum, Sum.dot, Sum.weight}
+use Rattle.integers.specs.{Flat.at, Flat.entry, Sum.sum, Sum.total, Sum.dot, Sum.weight}
+use Rattle.additions.specs.Additions.{nonzero}
 use Rattle.column.specs.Column.{skipped, column, Zeros}
 use Rattle.job.specs.{Rules.bound-over, Rules.bound-under, Header.radix}
 use Rattle.recurrence.specs.Recurrence.{select}
@@ -160,6 +161,31 @@ pub record MayChooseRow (r q p u : ℕ) (z s : List ℤ) (i : ℕ) : Type 0 wher
 pub record MayChoose (n r q p u : ℕ) (z s : List ℤ) : Type 0 where
   pub order : n ≤ 16
   pub rows : (i : ℕ) → i < n → MayChooseRow r q p u z s i
+
+-- ---- in how many steps each column is added
+
+-- t has the number f j for each column j below m
+pub record Counts (m : ℕ) (f : ℕ → ℕ) (t : List ℕ) : Type 0 where
+  pub size : length t ≡ 16
+  pub columns : (j : ℕ) → j < m → getD t j 0 ≡ f j
+
+-- one more fits each count of the columns below n
+pub record MayCount (n : ℕ) (t : List ℕ) : Type 0 where
+  pub size : length t ≡ 16
+  pub room : (j : ℕ) → j < n → getD t j 0 < 255
+
+-- the digits d may be taken off the counts
+pub record MayTake (d : List ℤ) (t : List ℕ) : Type 0 where
+  pub size : length t ≡ 16
+  pub enough : (j : ℕ) → j < 16 → nonzero (at d j) ≤ getD t j 0
+
+-- no column is added in more than 60 steps
+abbrev pub FewTimes : (n : ℕ) (t : List ℕ) → Type 0
+FewTimes n t = (j : ℕ) → j < n → getD t j 0 ≤ 60
+
+-- the entries of column j other than 0
+abbrev pub column-entries : (n : ℕ) (g : List ℤ) (j : ℕ) → ℕ
+column-entries n g j = total n (λ i. nonzero (entry g i j))
 
 -- ---- a step
 

@@ -4,7 +4,8 @@
 use mathlib.Core.{Path._≡_, List.List}
 use Prim.Native.Nat.{ℕ, _+_, _*_, _<_, _≤_, zero, suc}
 use lib.{IntN.ℤ, IntN.pos, IntN._*ℤ_, ListN.length, ListN.replicate}
-use Rattle.integers.specs.Flat.{at, entry, stores, flat-vector}
+use Rattle.integers.specs.{Flat.at, Flat.entry, Flat.stores, Flat.flat-vector, Sum.total}
+use Rattle.additions.specs.Additions.{step-additions}
 use Rattle.recurrence.specs.Recurrence.{select, next-digit, next-residual, residual, digit}
 use Rattle.job.specs.{Header.radix, Rules.scale-factor, Rules.inner-unit, declared.Header.Header}
 use Rattle.state.specs.{declared.State.State, State.PassesLimits, State.state-last, State.fresh, State.state-unit, State.digits-of, State.all-steps}
@@ -69,6 +70,14 @@ one-step s =
 unfoldable pub steps : State → ℕ → State
 steps s zero = s
 steps s (suc j) = one-step (steps s j)
+
+-- the additions of a state's next step, with the digits of the last step made (document 02, request 6), and
+-- of the next j steps
+abbrev pub next-additions : State → ℕ
+next-additions s = step-additions (s .header .n) (entry (s .g)) (digits-of (s .digits) (s .k))
+
+unfoldable pub steps-additions : State → ℕ → ℕ
+steps-additions s j = total j (λ t. next-additions (steps s t))
 
 -- ---- the digits and the residuals that document 01's steps give on a matrix G and right-hand sides B, in
 -- units of 1 / 2^f, under the header h and at the scale s. To the recurrence the unit is 2^f × r^s: in it the

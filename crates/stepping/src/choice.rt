@@ -4,12 +4,13 @@
 ghost use mathlib.Core.Path.{_≡_};
 ghost use Prim.Native.Nat.{_+_, _*_, _^_, _<_, _≤_};
 ghost use lib.IntN.{pos, _+ℤ_, _-ℤ_, _*ℤ_};
-ghost use lib.ListN.{length, set};
+ghost use lib.ListN.{length, getD, set};
 ghost use Rattle.integers.specs.Sum.{Within};
 ghost use Rattle.integers.specs.Flat.{stores};
+ghost use Rattle.additions.specs.Additions.{nonzero};
 ghost use Rattle.selection.specs.Selection.{selection-table};
 ghost use Rattle.stepping.specs.Steps.{filled};
-ghost use Rattle.stepping.specs.Inner.{digit-from, residual-from, MayChooseRow, MayChoose, Listed};
+ghost use Rattle.stepping.specs.Inner.{digit-from, residual-from, MayChooseRow, MayChoose, Listed, Counts, MayCount};
 use job::ROWS;
 use selection::ESTIMATES;
 use state::DIGITS;
@@ -71,13 +72,14 @@ fn choose_row(
 
 // The choice of the step after the k-th: in `new` the digits chosen from the residuals z and the rows' sums s
 // with the digits of the step before, and in z the residuals that they leave. No row uses a digit that this
-// step has chosen. The words past row n stay.
+// step has chosen. The words past row n stay. In `times` each column is counted that the next step adds.
 pub fn choose(
     choices: &[i8; ESTIMATES],
     s: &[i64; ROWS],
     z: &mut [i64; ROWS],
     new: &mut [i8; ROWS],
     digits: &mut [i8; DIGITS],
+    times: &mut [u8; ROWS],
     n: usize,
     k: usize,
     r: usize,
@@ -85,14 +87,16 @@ pub fn choose(
     f: usize,
     p: usize,
 )
-    requires { ⌜ (now choices ≡ selection-table) × (k < 60) × (4 ≤ f) × (f ≤ 44) × MayChoose n r q p (2 ^ f) (now z) (now s) ⌝ }
+    requires { ⌜ (now choices ≡ selection-table) × (k < 60) × (4 ≤ f) × (f ≤ 44) × MayChoose n r q p (2 ^ f) (now z) (now s) × MayCount n (now times) ⌝ }
     ensures digits { λ _. ⌜ now (new .exit) ≡ filled (digit-from r q p (2 ^ f) (now (z .entry)) (now (s .entry))) (now (new .entry)) n ⌝ }
     ensures stored { λ _. ⌜ now (digits .exit) ≡ stores (now (digits .entry)) (λ i. 16 * k + i) (digit-from r q p (2 ^ f) (now (z .entry)) (now (s .entry))) n ⌝ }
     ensures residuals { λ _. ⌜ now (z .exit) ≡ filled (residual-from r q p (2 ^ f) (now (z .entry)) (now (s .entry))) (now (z .entry)) n ⌝ }
+    ensures counted { λ _. ⌜ Counts n (λ j. getD (now (times .entry)) j 0 + nonzero (digit-from r q p (2 ^ f) (now (z .entry)) (now (s .entry)) j)) (now (times .exit)) ⌝ }
 {
     let mut i: usize = 0;
     while i < n {
-        choose_row(choices, s, z, new, digits, i, k, r, q, f, p);
+        let d = choose_row(choices, s, z, new, digits, i, k, r, q, f, p);
+        times[i] = times[i] + super::counts::added(d);
         i += 1;
     }
 }
@@ -105,22 +109,25 @@ pub fn choose_and_list(
     z: &mut [i64; ROWS],
     new: &mut [i8; ROWS],
     digits: &mut [i8; DIGITS],
+    times: &mut [u8; ROWS],
     list: &mut [usize; ROWS],
     n: usize,
     k: usize,
     q: usize,
     f: usize,
 ) -> usize
-    requires { ⌜ (now choices ≡ selection-table) × (k < 60) × (4 ≤ f) × (f ≤ 44) × (length (now list) ≡ 16) × MayChoose n 2 q 1 (2 ^ f) (now z) (now s) ⌝ }
+    requires { ⌜ (now choices ≡ selection-table) × (k < 60) × (4 ≤ f) × (f ≤ 44) × (length (now list) ≡ 16) × MayChoose n 2 q 1 (2 ^ f) (now z) (now s) × MayCount n (now times) ⌝ }
     ensures digits { λ _. ⌜ now (new .exit) ≡ filled (digit-from 2 q 1 (2 ^ f) (now (z .entry)) (now (s .entry))) (now (new .entry)) n ⌝ }
     ensures stored { λ _. ⌜ now (digits .exit) ≡ stores (now (digits .entry)) (λ i. 16 * k + i) (digit-from 2 q 1 (2 ^ f) (now (z .entry)) (now (s .entry))) n ⌝ }
     ensures residuals { λ _. ⌜ now (z .exit) ≡ filled (residual-from 2 q 1 (2 ^ f) (now (z .entry)) (now (s .entry))) (now (z .entry)) n ⌝ }
+    ensures counted { λ _. ⌜ Counts n (λ j. getD (now (times .entry)) j 0 + nonzero (digit-from 2 q 1 (2 ^ f) (now (z .entry)) (now (s .entry)) j)) (now (times .exit)) ⌝ }
     ensures listed { λ c. ⌜ Listed n (digit-from 2 q 1 (2 ^ f) (now (z .entry)) (now (s .entry))) (now (list .exit)) c ⌝ }
 {
     let mut count: usize = 0;
     let mut i: usize = 0;
     while i < n {
         let d = choose_row(choices, s, z, new, digits, i, k, 2, q, f, 1);
+        times[i] = times[i] + super::counts::added(d);
         list[count] = super::signs::column_place(d, i);
         count = super::signs::counted(d, count);
         i += 1;

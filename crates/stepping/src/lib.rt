@@ -5,15 +5,16 @@
 // with the recurrence.
 ghost use mathlib.Core.Path.{_≡_};
 ghost use mathlib.Core.Bool.{true};
-ghost use Prim.Native.Nat.{_≤_};
+ghost use Prim.Native.Nat.{_+_, _≤_};
 ghost use lib.IntN.{pos};
-ghost use lib.ListN.{length, replicate};
-ghost use Rattle.integers.specs.Flat.{flat-vector};
+ghost use lib.ListN.{length, getD, replicate};
+ghost use Rattle.integers.specs.Flat.{at, flat-vector};
+ghost use Rattle.additions.specs.Additions.{nonzero};
 ghost use Rattle.selection.specs.Selection.{selection-table};
-ghost use Rattle.stepping.specs.Inner.{row-dot, MaySumRows, FirstZero, Starts, Ends, Columns, MayStepOnce, Stepped, MayStep};
+ghost use Rattle.stepping.specs.Inner.{row-dot, MaySumRows, FirstZero, Starts, Ends, Columns, Counts, MayCount, MayStepOnce, Stepped, MayStep};
 ghost use Rattle.state.specs.State.{digits-of};
 ghost use Rattle.state.specs.Inner.{state-of};
-ghost use Rattle.stepping.specs.Steps.{filled, steps};
+ghost use Rattle.stepping.specs.Steps.{filled, steps, steps-additions};
 use job::Header;
 use job::ROWS;
 use selection::ESTIMATES;
@@ -22,6 +23,7 @@ use state::DIGITS;
 use system::ENTRIES;
 
 mod choice; // choice.rt: a digit in each row
+mod counts; // counts.rt: how many additions the steps make
 mod signs; // signs.rt: the rows' sums in radix 2, each column added or taken off
 mod spans; // spans.rt: the rows' sums, each column multiplied by its digit
 
@@ -82,16 +84,31 @@ fn step_by_spans<'a>(
     before: [i8; ROWS],
     mut chosen: [i8; ROWS],
     sums: &mut [i64; ROWS],
+    times: &mut [u8; ROWS],
     z: &mut [i64; ROWS],
     digits: &mut [i8; DIGITS],
 ) -> [i8; ROWS]
-    requires { ⌜ MayStepOnce (state-of true h scale k (now g) (now z) (now digits)) r q bits before (now sums) × Starts (h .n) (now g) (now starts) × Ends (h .n) (now g) (now ends) × (length (now sums) ≡ 16) × (now choices ≡ selection-table) ⌝ }
+    requires { ⌜ MayStepOnce (state-of true h scale k (now g) (now z) (now digits)) r q bits before (now sums) × Starts (h .n) (now g) (now starts) × Ends (h .n) (now g) (now ends) × (length (now sums) ≡ 16) × (now choices ≡ selection-table) × MayCount (h .n) (now times) ⌝ }
     ensures step { λ v. ⌜ Stepped (state-of true h scale k (now (g .entry)) (now (z .entry)) (now (digits .entry))) (now (z .exit)) (now (digits .exit)) v (now (sums .exit)) ⌝ }
     ensures size { λ _. ⌜ length (now (sums .exit)) ≡ 16 ⌝ }
+    ensures counted { λ v. ⌜ Counts (h .n) (λ j. getD (now (times .entry)) j 0 + nonzero (at v j)) (now (times .exit)) ⌝ }
 {
     let n = h.n;
     chosen = [0i8; ROWS];
-    choice::choose(choices, sums, z, &mut chosen, digits, n, k, r, q, bits, h.p);
+    choice::choose(
+        choices,
+        sums,
+        z,
+        &mut chosen,
+        digits,
+        times,
+        n,
+        k,
+        r,
+        q,
+        bits,
+        h.p,
+    );
     spans::column_sums(g, starts, ends, &chosen, n, sums);
     chosen
 }
@@ -107,13 +124,14 @@ fn run_by_spans(
     g: &[i64; ENTRIES],
     z: &mut [i64; ROWS],
     digits: &mut [i8; DIGITS],
-)
+) -> usize
     requires { ⌜ MayStep (state-of true h scale k (now g) (now z) (now digits)) made × (now choices ≡ selection-table) ⌝ }
     ensures residuals { λ _. ⌜ now (z .exit) ≡ steps (state-of true h scale k (now (g .entry)) (now (z .entry)) (now (digits .entry))) made .z ⌝ }
     ensures digits { λ _. ⌜ now (digits .exit) ≡ steps (state-of true h scale k (now (g .entry)) (now (z .entry)) (now (digits .entry))) made .digits ⌝ }
+    ensures additions { λ a. ⌜ a ≡ steps-additions (state-of true h scale k (now (g .entry)) (now (z .entry)) (now (digits .entry))) made ⌝ }
 {
     let n = h.n;
-    let r = job::radix(h.code);
+    let r = job::radix_by_shift(h.code);
     let q = job::sum_factor(h, scale);
     let bits = job::inner_bits(h, scale);
     let starts = spans::column_starts(g, n);
@@ -121,6 +139,7 @@ fn run_by_spans(
     let mut before = last_digits(digits, k, n);
     let mut chosen = [0i8; ROWS];
     let mut sums = first_sums(g, &before, n, k);
+    let mut times = counts::first_times(&before);
     let mut j: usize = 0;
     while j < made {
         let newest = step_by_spans(
@@ -137,6 +156,7 @@ fn run_by_spans(
             before,
             chosen,
             &mut sums,
+            &mut times,
             z,
             digits,
         );
@@ -144,6 +164,8 @@ fn run_by_spans(
         before = newest;
         j += 1;
     }
+    counts::take_last(&before, &mut times);
+    counts::additions(g, &starts, &ends, &times, n)
 }
 
 // The same step in radix 2, with each column added or taken off, and those whose digit is 0 left out of the
@@ -160,11 +182,13 @@ fn step_by_signs<'a>(
     before: [i8; ROWS],
     mut chosen: [i8; ROWS],
     sums: &mut [i64; ROWS],
+    times: &mut [u8; ROWS],
     z: &mut [i64; ROWS],
     digits: &mut [i8; DIGITS],
 ) -> [i8; ROWS]
-    requires { ⌜ MayStepOnce (state-of true h scale k (now g) (now z) (now digits)) 2 q bits before (now sums) × Columns (h .n) (now g) (now columns) × (h .p ≡ 1) × (now choices ≡ selection-table) ⌝ }
-    ensures { λ v. ⌜ Stepped (state-of true h scale k (now (g .entry)) (now (z .entry)) (now (digits .entry))) (now (z .exit)) (now (digits .exit)) v (now (sums .exit)) ⌝ }
+    requires { ⌜ MayStepOnce (state-of true h scale k (now g) (now z) (now digits)) 2 q bits before (now sums) × Columns (h .n) (now g) (now columns) × (h .p ≡ 1) × (now choices ≡ selection-table) × MayCount (h .n) (now times) ⌝ }
+    ensures step { λ v. ⌜ Stepped (state-of true h scale k (now (g .entry)) (now (z .entry)) (now (digits .entry))) (now (z .exit)) (now (digits .exit)) v (now (sums .exit)) ⌝ }
+    ensures counted { λ v. ⌜ Counts (h .n) (λ j. getD (now (times .entry)) j 0 + nonzero (at v j)) (now (times .exit)) ⌝ }
 {
     let n = h.n;
     chosen = [0i8; ROWS];
@@ -175,6 +199,7 @@ fn step_by_signs<'a>(
         z,
         &mut chosen,
         digits,
+        times,
         &mut list,
         n,
         k,
@@ -196,10 +221,11 @@ fn run_by_signs(
     g: &[i64; ENTRIES],
     z: &mut [i64; ROWS],
     digits: &mut [i8; DIGITS],
-)
+) -> usize
     requires { ⌜ MayStep (state-of true h scale k (now g) (now z) (now digits)) made × (h .p ≡ 1) × (now choices ≡ selection-table) ⌝ }
     ensures residuals { λ _. ⌜ now (z .exit) ≡ steps (state-of true h scale k (now (g .entry)) (now (z .entry)) (now (digits .entry))) made .z ⌝ }
     ensures digits { λ _. ⌜ now (digits .exit) ≡ steps (state-of true h scale k (now (g .entry)) (now (z .entry)) (now (digits .entry))) made .digits ⌝ }
+    ensures additions { λ a. ⌜ a ≡ steps-additions (state-of true h scale k (now (g .entry)) (now (z .entry)) (now (digits .entry))) made ⌝ }
 {
     let n = h.n;
     let q = job::sum_factor(h, scale);
@@ -208,6 +234,7 @@ fn run_by_signs(
     let mut before = last_digits(digits, k, n);
     let mut chosen = [0i8; ROWS];
     let mut sums = first_sums(g, &before, n, k);
+    let mut times = counts::first_times(&before);
     let mut j: usize = 0;
     while j < made {
         let newest = step_by_signs(
@@ -222,6 +249,7 @@ fn run_by_signs(
             before,
             chosen,
             &mut sums,
+            &mut times,
             z,
             digits,
         );
@@ -229,6 +257,10 @@ fn run_by_signs(
         before = newest;
         j += 1;
     }
+    counts::take_last(&before, &mut times);
+    let starts = [0usize; ROWS];
+    let ends = [n; ROWS];
+    counts::additions(g, &starts, &ends, &times, n)
 }
 
 // Whether steps with columns added or taken off are likely to be faster, the time to place the columns
@@ -263,15 +295,16 @@ pub fn make_steps(
     g: &[i64; ENTRIES],
     z: &mut [i64; ROWS],
     digits: &mut [i8; DIGITS],
-)
+) -> usize
     requires { ⌜ MayStep (state-of true h scale k (now g) (now z) (now digits)) made ⌝ }
     ensures residuals { λ _. ⌜ now (z .exit) ≡ steps (state-of true h scale k (now (g .entry)) (now (z .entry)) (now (digits .entry))) made .z ⌝ }
     ensures digits { λ _. ⌜ now (digits .exit) ≡ steps (state-of true h scale k (now (g .entry)) (now (z .entry)) (now (digits .entry))) made .digits ⌝ }
+    ensures additions { λ a. ⌜ a ≡ steps-additions (state-of true h scale k (now (g .entry)) (now (z .entry)) (now (digits .entry))) made ⌝ }
 {
     let choices = selection::table();
     if signs_pay(g, h.n, h.p, made) {
-        run_by_signs(h, scale, k, made, &choices, g, z, digits);
+        run_by_signs(h, scale, k, made, &choices, g, z, digits)
     } else {
-        run_by_spans(h, scale, k, made, &choices, g, z, digits);
+        run_by_spans(h, scale, k, made, &choices, g, z, digits)
     }
 }

@@ -50,7 +50,8 @@ pub fn column_place(d: i64, j: usize) -> usize
     128 * (integers::to_unsigned(d + 1) as usize) + 16 * j
 }
 
-// The columns listed after one more, which is skipped where its digit is 0.
+// A count after one number more, which is left out where it is 0: a digit, whose column is then skipped and
+// not listed, or an entry.
 pub fn counted(d: i64, count: usize) -> usize
     requires { ⌜ count < 16 ⌝ }
     ensures { λ c. ⌜ c ≡ counted d count ⌝ }

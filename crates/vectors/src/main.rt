@@ -1,13 +1,14 @@
 // Frames and traces from an independent model, held to what it says of them. Standard input has many of them,
 // one after the other: a byte, the number of its bytes in two bytes, most significant first, and its bytes.
-// The byte before them is `f` for a frame, `c` for a frame whose columns are shown, or `t` for a trace.
+// The byte before them is `f` for a frame, `c` for a frame whose columns are shown, `a` for a frame whose
+// additions are, or `t` for a trace.
 //
 // A frame is printed as `edigits` prints it. Of its columns the running sums are printed after 0, 1 and 2
-// steps and after all: the steps made, and the words; or `refused`, the number, and the row of a heavy row. A
-// trace is read and printed: `refused` and the number; or a line kind, r, p, f, n, m, k, and a line for each
-// step, its number and the digits by row. An accepted frame or trace is written again too, and so is the
-// trace of the frame's job; a line `differs`, which the model never prints, says where that gives other
-// bytes.
+// steps and after all: the steps made, and the words; or `refused`, the number, and the row of a heavy row.
+// Its additions are those of each step in turn; one advance of all steps counts as many. A trace is read and
+// printed: `refused` and the number; or a line kind, r, p, f, n, m, k, and a line for each step, its number and
+// the digits by row. An accepted frame or trace is written again too, and so is the trace of the frame's job; a
+// line `differs`, which the model never prints, says where that gives other bytes.
 use emethod::FrameRead;
 use emethod::FrameWritten;
 use emethod::Header;
@@ -24,6 +25,9 @@ use state::DIGITS;
 
 // Where the loop ends if the input does not: more vectors than there are.
 const MOST: usize = 10000;
+
+// More additions than a job can cost, whatever is taken off.
+const TOO_MANY: usize = 1000000;
 
 // The most words of the running sums: for each of 16 columns its number and 16 sums.
 const WORDS: usize = 272;
@@ -213,6 +217,16 @@ fn show_job(s: State) {
     }
 }
 
+// The line of a frame that is not loaded.
+fn show_refused(refusal: usize, row: usize) {
+    io::write_all(1, b"refused");
+    print_field(refusal);
+    if row != 0 {
+        print_field(row);
+    }
+    print_newline();
+}
+
 // Prints the columns of one frame.
 fn show_columns(s: &[u8]) {
     let l: Loaded = emethod::load(s);
@@ -220,12 +234,54 @@ fn show_columns(s: &[u8]) {
         show_job(l.state);
         return;
     }
-    io::write_all(1, b"refused");
-    print_field(l.refusal);
-    if l.row != 0 {
-        print_field(l.row);
+    show_refused(l.refusal, l.row);
+}
+
+// A number of the line, with a space before it unless it is the first, which is that of step 1.
+fn print_item(n: usize, k: usize) {
+    if 1 < k {
+        io::write_all(1, b" ");
+    }
+    print_number(n);
+}
+
+// What is left of a count after a part of it; where the part is too large, too many to come to 0 any more.
+fn less(count: usize, part: usize) -> usize {
+    if count < part {
+        return TOO_MANY;
+    }
+    count - part
+}
+
+// The line of a job: the additions of each step, one advance a step. Taken off those that one advance of all
+// steps counts, they leave none.
+fn show_step_additions(s: State) {
+    let all = emethod::advance(s, ALL_STEPS);
+    let mut left = all.additions;
+    let mut t = s;
+    let mut j: u64 = 0;
+    while j < ALL_STEPS {
+        let a = emethod::advance(t, 1);
+        if a.refusal == 0 {
+            print_item(a.additions, a.state.k);
+        }
+        left = less(left, a.additions);
+        let next = a.state;
+        t = next;
+        j += 1;
     }
     print_newline();
+    print_differs(left == 0);
+}
+
+// Prints the additions of one frame.
+fn show_additions(s: &[u8]) {
+    let l: Loaded = emethod::load(s);
+    if l.refusal == 0 {
+        show_step_additions(l.state);
+        return;
+    }
+    show_refused(l.refusal, l.row);
 }
 
 // Reads as many bytes as asked for, or as there are, to the front of a buffer; how many were read.
@@ -245,6 +301,8 @@ fn print_front(tag: u8, buf: &[u8], n: usize) {
         show_frame(&buf[0..n]);
     } else if tag == b'c' {
         show_columns(&buf[0..n]);
+    } else if tag == b'a' {
+        show_additions(&buf[0..n]);
     } else {
         show_trace(&buf[0..n]);
     }

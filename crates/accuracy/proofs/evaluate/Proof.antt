@@ -38,41 +38,46 @@ allowed : (m : tie.After-steps-allowed) → let l = m .before .before .before .b
     m .steps-allowed .result ≡ smaller (state-last (l .load .result .state)) (budgets (advances (l .before .before .before .args .budgets .now)))
 allowed m = rw (m .before .last-step .ensures) at (m .steps-allowed .ensures)
 
-returns-2 : tie.Need-returns-2
-returns-2 c =
-    let m = c .before .before in
-    let e = m .before .before .before in
-    let l = e .before in
-    let a = l .before .before .before .args in
-    promise-short (a .frame .now) (a .budgets .now) (a .out .now) (l .load .result) (l .load .ensures) (e .if1 .left) (m .steps-allowed .result) (allowed m) (c .if2 .taken)
-
 make-steps-requires : tie.Need-make-steps-requires
 make-steps-requires c κs =
-    let m = c .before .before .before .before .before .before .before in
+    let m = c .before .before .before .before .before in
     let e = m .before .before .before in
     let l = e .before in
     let a = l .before .before .before .args in
     steppable (a .frame .now) (a .budgets .now) (a .out .now) (l .load .result) (l .load .ensures) (e .if1 .left) (m .steps-allowed .result) (allowed m)
 
-put-readings-requires : tie.Need-put-readings-requires
-put-readings-requires c κs =
-    let m = c .before .before .before .before .before .before .before .before .before .before in
+returns-2 : tie.Need-returns-2
+returns-2 c =
+    let k = c .before .before in
+    let m = k .before .before .before .before .before .before in
     let e = m .before .before .before in
     let l = e .before in
     let a = l .before .before .before .args in
-    (rows-readable (a .frame .now) (a .budgets .now) (a .out .now) (l .load .result) (l .load .ensures) (e .if1 .left) (m .steps-allowed .result) (allowed m) _ (c .before .before .make-steps .ensures .1), c .before .before .before .before .before .before .before .before .if2 .left)
+    promise-short (a .frame .now) (a .budgets .now) (a .out .now) (l .load .result) (l .load .ensures) (e .if1 .left) (m .steps-allowed .result) (allowed m) _ (k .make-steps .ensures .1 .1) (c .if2 .taken)
+
+put-readings-requires : tie.Need-put-readings-requires
+put-readings-requires c κs =
+    let o = c .before .before in
+    let k = o .before .before in
+    let m = k .before .before .before .before .before .before in
+    let e = m .before .before .before in
+    let l = e .before in
+    let a = l .before .before .before .args in
+    (rows-readable (a .frame .now) (a .budgets .now) (a .out .now) (l .load .result) (l .load .ensures) (e .if1 .left) (m .steps-allowed .result) (allowed m) _ (k .make-steps .ensures .1 .0), o .if2 .left)
 
 same-length : tie.Need-same-length
 same-length c = search needs
 
 returns-3 : tie.Need-returns-3
 returns-3 c =
-    let m = c .before .before .before .before .before .before .before .before .before .before .before .before in
+    let q = c .before in
+    let o = q .before .before .before in
+    let k = o .before .before in
+    let m = k .before .before .before .before .before .before in
     let e = m .before .before .before in
     let l = e .before in
     let a = l .before .before .before .args in
-    let q = c .before in
-    promise-done (a .frame .now) (a .budgets .now) (a .out .now) (l .load .result) (l .load .ensures) (e .if1 .left) (m .steps-allowed .result) (allowed m) _ (q .before .before .before .make-steps .ensures .1) _ (c .before .before .before .before .before .before .before .before .before .before .if2 .left) (q .put-readings .ensures)
+    promise-done (a .frame .now) (a .budgets .now) (a .out .now) (l .load .result) (l .load .ensures) (e .if1 .left) (m .steps-allowed .result) (allowed m) _ (k .make-steps .ensures .1 .0) _ (k .make-steps .ensures .1 .1) _ (o .if2 .left) (q .put-readings .ensures)
 
 pub evaluate-spec : {M : Type 1} → statement M
 evaluate-spec =
@@ -82,8 +87,8 @@ evaluate-spec =
     returns
     last-step-requires
     steps-allowed-requires
-    returns-2
     make-steps-requires
+    returns-2
     put-readings-requires
     same-length
     returns-3)

@@ -9,8 +9,8 @@ slice-aggregate-evaluate c = search needs
 evaluate-requires : tie.Need-evaluate-requires
 evaluate-requires c κs = search needs
 
-scaled-answer-requires : tie.Need-scaled-answer-requires
-scaled-answer-requires c κs = search needs
+counted-answer-requires : tie.Need-counted-answer-requires
+counted-answer-requires c κs = search needs
 
 same-length : tie.Need-same-length
 same-length c = search needs
@@ -18,7 +18,7 @@ same-length c = search needs
 returns : tie.Need-returns
 returns c =
     let e = c .before .before .evaluate in
-    record { evaluated = e .result; promise = e .ensures; answer = c .scaled-answer .ensures }
+    record { evaluated = e .result; promise = e .ensures; answer = c .counted-answer .ensures }
 
 pub em-evaluate-spec : {M : Type 1} → statement M
 em-evaluate-spec =
@@ -26,6 +26,6 @@ em-evaluate-spec =
     (tie.spec
     slice-aggregate-evaluate
     evaluate-requires
-    scaled-answer-requires
+    counted-answer-requires
     same-length
     returns)

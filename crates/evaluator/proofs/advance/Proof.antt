@@ -82,8 +82,8 @@ returns c =
     let a = start r .args in
     let e = busy-whole (a .s) (accepted t .0) in
     let m = rw e at (c .make-steps .ensures) in
-    advance-makes (a .s) (a .budget) _ _ (r .before .check .ensures) (r .advance-refusal .ensures) _ _ _ (t .if1 .taken) (l .before .last-step .ensures) (l .smaller .ensures)
-    (steps-whole (a .s) _ _ _ (m .0) (m .1))
+    advance-makes (a .s) (a .budget) _ _ (r .before .check .ensures) (r .advance-refusal .ensures) _ _ _ _ (t .if1 .taken) (l .before .last-step .ensures) (l .smaller .ensures) (m .1 .1)
+    (steps-whole (a .s) _ _ _ (m .0) (m .1 .0))
 
 returns-2 : tie.Need-returns-2
 returns-2 c =

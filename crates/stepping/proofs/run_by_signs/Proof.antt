@@ -1,5 +1,5 @@
--- The invariant: the arrays are the state's after j steps. The measure is what is left of the steps to be
--- made.
+-- The invariant: the arrays are the state's after j steps, and the digits up to then are counted. The measure
+-- is what is left of the steps to be made.
 use mathlib.Core.Path.{_≡_}
 use mathlib.Core.Bool.{true}
 use Prim.Native.Nat.{_-_, _≤_}
@@ -8,15 +8,18 @@ use Rattle.stepping.proofs.Limits.{radix-two, may-tabulate}
 use Rattle.state.specs.Inner.{state-of}
 use Rattle.stepping.proofs.Kept as kept
 use Rattle.stepping.proofs.Stepping.{Reached, may-sum-first, reached-start, reached-may, reached-next, steps-have-room}
+use Rattle.stepping.proofs.ColumnSpan.{starts-first, ends-last}
+use Rattle.stepping.proofs.Counted.{Counted, counted-start, may-count, counted-next, may-take, few-times, additions-are}
 use Rattle.stepping.proofs.run_by_signs.Statement.{statement}
 use Rattle.stepping.proofs.run_by_signs.Tie as tie
 
 abbrev Inv-loop : tie.InvT-loop
-Inv-loop h scale k made choices g z₀ digits₀ n q bits columns before₀ chosen₀ sums₀ j₀ z digits before chosen sums j =
+Inv-loop h scale k made choices g z₀ digits₀ n q bits columns before₀ chosen₀ sums₀ times₀ j₀ z digits before chosen sums times j =
     (j ≤ made) × Reached (state-of true h scale k g z₀ digits₀) j digits z before sums
+    × Counted (state-of true h scale k g z₀ digits₀) j times
 
 abbrev μ-loop : tie.MeasureT-loop
-μ-loop h scale k made choices g z₀ digits₀ n q bits columns before₀ chosen₀ sums₀ j₀ z digits before chosen sums j = made - j
+μ-loop h scale k made choices g z₀ digits₀ n q bits columns before₀ chosen₀ sums₀ times₀ j₀ z digits before chosen sums times j = made - j
 
 sum-factor-requires : tie.Need-sum-factor-requires Inv-loop μ-loop
 sum-factor-requires c κs = let p = c .pre .0 .passes in (p .limits, p .scaled)
@@ -38,33 +41,43 @@ start d = d .before .before .before .before .before
 first-sums-requires : tie.Need-first-sums-requires Inv-loop μ-loop
 first-sums-requires c κs = let d = c .before in may-sum-first (start d .pre .0 .passes) (d .last-digits .ensures)
 
+first-times-requires : tie.Need-first-times-requires Inv-loop μ-loop
+first-times-requires c κs = tt
+
 loop-holds : tie.Need-loop-holds Inv-loop μ-loop
 loop-holds c =
-    let d = c .before .before in
-    (omega arith, reached-start (start d .pre .0 .passes) (d .last-digits .ensures) (c .first-sums .ensures) .1)
+    let f = c .before .before in
+    let d = f .before .before in
+    let p = start d .pre .0 .passes in (
+      omega arith,
+      reached-start p (d .last-digits .ensures) (f .first-sums .ensures) .1,
+      counted-start _ (p .limits .order-most) (d .last-digits .ensures) (c .first-times .ensures),
+    )
 
 -- ---- a turn
 
 abbrev begun : tie.In-loop Inv-loop μ-loop → tie.After-last-digits Inv-loop μ-loop
-begun i = i .before .before .before .before
+begun i = i .before .before .before .before .before .before
 
 add-step-by-signs : tie.Need-add-step-by-signs Inv-loop μ-loop
 add-step-by-signs c = omega (arith, steps-have-room (start (begun c) .pre .0), c .loop-test .taken)
 
 step-by-signs-requires : tie.Need-step-by-signs-requires Inv-loop μ-loop
 step-by-signs-requires c κs =
-    let i = c .before .before .before .before in
+    let i = c .before .before .before .before .before in
     let d = begun i in
+    let v = i .before .loop .inv in
     let p = start d .pre in (
-      reached-may (p .0) (i .loop-test .taken) (i .before .loop .inv .1) _ _ _ (radix-two (p .0 .passes .limits) (p .1))
+      reached-may (p .0) (i .loop-test .taken) (v .1) _ _ _ (radix-two (p .0 .passes .limits) (p .1))
           (d .before .before .before .before .sum-factor .ensures) (d .before .before .before .inner-bits .ensures),
       d .before .before .columns .ensures,
       p .1,
       p .2,
+      may-count (v .2) (omega (arith, steps-have-room (p .0), i .loop-test .taken)),
     )
 
 abbrev taken : tie.After-step-by-signs Inv-loop μ-loop → tie.In-loop Inv-loop μ-loop
-taken c = c .before .before .before .before .before
+taken c = c .before .before .before .before .before .before
 
 add-j : tie.Need-add-j Inv-loop μ-loop
 add-j c = let i = taken c in omega (arith, steps-have-room (start (begun i) .pre .0), i .loop-test .taken)
@@ -75,13 +88,46 @@ loop-less c = omega arith
 loop-again : tie.Need-loop-again Inv-loop μ-loop
 loop-again c =
     let i = taken c in
-    (omega arith, reached-next (start (begun i) .pre .0) (i .loop-test .taken) (i .before .loop .inv .1) (c .step-by-signs .ensures))
+    let v = i .before .loop .inv in
+    let o = c .step-by-signs .ensures in
+    let n = reached-next (start (begun i) .pre .0) (i .loop-test .taken) (v .1) (o .0) in
+    (omega arith, n, counted-next (v .2) (n .between .last) (o .1))
+
+-- ---- the additions: every row of a column is looked at
+
+-- after the last step
+abbrev run : tie.At-loop Inv-loop μ-loop → tie.After-last-digits Inv-loop μ-loop
+run l = l .before .before .before .before .before
+
+take-last-requires : tie.Need-take-last-requires Inv-loop μ-loop
+take-last-requires c κs =
+    let l = c .before .before .before in
+    let v = l .loop .inv in
+    may-take (v .2) (start (run l) .pre .0 .passes .limits .order-most) (v .1 .between .last)
+
+additions-requires : tie.Need-additions-requires Inv-loop μ-loop
+additions-requires c κs =
+    let t = c .before .before .before in
+    let l = t .before .before .before .before in
+    let d = run l in
+    let v = l .loop .inv in
+    let b = start d .pre .0 in
+    let order = b .passes .limits .order-most in (
+      order,
+      starts-first _ (start d .args .g .now) order,
+      ends-last _ (start d .args .g .now) order,
+      few-times (v .2) order (v .1 .between .last) (t .take-last .ensures) (omega (arith, steps-have-room b, v .0)),
+    )
 
 returns : tie.Need-returns Inv-loop μ-loop
 returns c =
-    let l = c .before .loop in
-    let e : l .j ≡ start (c .before .before .before .before) .args .made = omega arith in
-    (rw e at (l .inv .1 .residuals), rw e at (l .inv .1 .digits))
+    let t = c .before .before .before .before in
+    let l = t .before .before .before .before in
+    let v = l .loop .inv in
+    let b = start (run l) .pre .0 in
+    let o : l .loop .j ≡ start (run l) .args .made = omega arith in
+    let a = additions-are (v .2) (b .passes .limits .order-most) (v .1 .between .last) (t .take-last .ensures) (c .additions .ensures) in
+    (rw o at (v .1 .residuals), (rw o at (v .1 .digits), rw o at a))
 
 pub run-by-signs-spec : {M : Type 1} → statement M
 run-by-signs-spec =
@@ -94,10 +140,13 @@ run-by-signs-spec =
     columns-requires
     last-digits-requires
     first-sums-requires
+    first-times-requires
     loop-holds
     add-step-by-signs
     step-by-signs-requires
     add-j
     loop-less
     loop-again
+    take-last-requires
+    additions-requires
     returns)

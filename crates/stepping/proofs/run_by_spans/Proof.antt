@@ -1,5 +1,5 @@
--- The invariant: the arrays are the state's after j steps. The measure is what is left of the steps to be
--- made.
+-- The invariant: the arrays are the state's after j steps, and the digits up to then are counted. The measure
+-- is what is left of the steps to be made.
 use mathlib.Core.Path.{_≡_}
 use mathlib.Core.Bool.{true}
 use Prim.Native.Nat.{_-_, _≤_}
@@ -7,18 +7,20 @@ use native.Mathlib.Omega.{arith}
 use lib.ListN.{length}
 use Rattle.state.specs.Inner.{state-of}
 use Rattle.stepping.proofs.Stepping.{Reached, may-sum-first, reached-start, reached-may, reached-next, steps-have-room}
+use Rattle.stepping.proofs.Counted.{Counted, counted-start, may-count, counted-next, may-take, few-times, additions-are}
 use Rattle.stepping.proofs.run_by_spans.Statement.{statement}
 use Rattle.stepping.proofs.run_by_spans.Tie as tie
 
 abbrev Inv-loop : tie.InvT-loop
-Inv-loop h scale k made choices g z₀ digits₀ n r q bits starts ends before₀ chosen₀ sums₀ j₀ z digits before chosen sums j =
+Inv-loop h scale k made choices g z₀ digits₀ n r q bits starts ends before₀ chosen₀ sums₀ times₀ j₀ z digits before chosen sums times j =
     (j ≤ made) × (length sums ≡ 16) × Reached (state-of true h scale k g z₀ digits₀) j digits z before sums
+    × Counted (state-of true h scale k g z₀ digits₀) j times
 
 abbrev μ-loop : tie.MeasureT-loop
-μ-loop h scale k made choices g z₀ digits₀ n r q bits starts ends before₀ chosen₀ sums₀ j₀ z digits before chosen sums j = made - j
+μ-loop h scale k made choices g z₀ digits₀ n r q bits starts ends before₀ chosen₀ sums₀ times₀ j₀ z digits before chosen sums times j = made - j
 
-radix-requires : tie.Need-radix-requires Inv-loop μ-loop
-radix-requires c κs = c .pre .0 .passes .limits .code-most
+radix-by-shift-requires : tie.Need-radix-by-shift-requires Inv-loop μ-loop
+radix-by-shift-requires c κs = c .pre .0 .passes .limits .code-most
 
 sum-factor-requires : tie.Need-sum-factor-requires Inv-loop μ-loop
 sum-factor-requires c κs = let p = c .before .pre .0 .passes in (p .limits, p .scaled)
@@ -43,36 +45,42 @@ start d = d .before .before .before .before .before .before .before
 first-sums-requires : tie.Need-first-sums-requires Inv-loop μ-loop
 first-sums-requires c κs = let d = c .before in may-sum-first (start d .pre .0 .passes) (d .last-digits .ensures)
 
+first-times-requires : tie.Need-first-times-requires Inv-loop μ-loop
+first-times-requires c κs = tt
+
 loop-holds : tie.Need-loop-holds Inv-loop μ-loop
 loop-holds c =
-    let d = c .before .before in
+    let f = c .before .before in
+    let d = f .before .before in
+    let p = start d .pre .0 .passes in
     let j : 0 ≤ start d .args .made = omega arith in
-    let q = reached-start (start d .pre .0 .passes) (d .last-digits .ensures) (c .first-sums .ensures) in
-    (j, q .0, q .1)
+    let q = reached-start p (d .last-digits .ensures) (f .first-sums .ensures) in
+    (j, q .0, q .1, counted-start _ (p .limits .order-most) (d .last-digits .ensures) (c .first-times .ensures))
 
 -- ---- a turn
 
 abbrev begun : tie.In-loop Inv-loop μ-loop → tie.After-last-digits Inv-loop μ-loop
-begun i = i .before .before .before .before
+begun i = i .before .before .before .before .before .before
 
 add-step-by-spans : tie.Need-add-step-by-spans Inv-loop μ-loop
 add-step-by-spans c = omega (arith, steps-have-room (start (begun c) .pre .0), c .loop-test .taken)
 
 step-by-spans-requires : tie.Need-step-by-spans-requires Inv-loop μ-loop
 step-by-spans-requires c κs =
-    let i = c .before .before .before .before .before in
+    let i = c .before .before .before .before .before .before in
     let d = begun i in
     let v = i .before .loop .inv in (
-      reached-may (start d .pre .0) (i .loop-test .taken) (v .2) _ _ _ (d .before .before .before .before .before .before .radix .ensures)
+      reached-may (start d .pre .0) (i .loop-test .taken) (v .2) _ _ _ (d .before .before .before .before .before .before .radix-by-shift .ensures)
           (d .before .before .before .before .before .sum-factor .ensures) (d .before .before .before .before .inner-bits .ensures),
       d .before .before .before .column-starts .ensures,
       d .before .before .column-ends .ensures,
       v .1,
       start d .pre .1,
+      may-count (v .3) (omega (arith, steps-have-room (start d .pre .0), i .loop-test .taken)),
     )
 
 abbrev taken : tie.After-step-by-spans Inv-loop μ-loop → tie.In-loop Inv-loop μ-loop
-taken c = c .before .before .before .before .before .before
+taken c = c .before .before .before .before .before .before .before
 
 add-j : tie.Need-add-j Inv-loop μ-loop
 add-j c = let i = taken c in omega (arith, steps-have-room (start (begun i) .pre .0), i .loop-test .taken)
@@ -83,14 +91,47 @@ loop-less c = omega arith
 loop-again : tie.Need-loop-again Inv-loop μ-loop
 loop-again c =
     let i = taken c in
+    let v = i .before .loop .inv in
     let o = c .step-by-spans .ensures in
-    (omega arith, o .1, reached-next (start (begun i) .pre .0) (i .loop-test .taken) (i .before .loop .inv .2) (o .0))
+    let n = reached-next (start (begun i) .pre .0) (i .loop-test .taken) (v .2) (o .0) in
+    (omega arith, o .1 .0, n, counted-next (v .3) (n .between .last) (o .1 .1))
+
+-- ---- the additions
+
+-- after the last step
+abbrev run : tie.At-loop Inv-loop μ-loop → tie.After-last-digits Inv-loop μ-loop
+run l = l .before .before .before .before .before
+
+take-last-requires : tie.Need-take-last-requires Inv-loop μ-loop
+take-last-requires c κs =
+    let l = c .before .before .before in
+    let v = l .loop .inv in
+    may-take (v .3) (start (run l) .pre .0 .passes .limits .order-most) (v .2 .between .last)
+
+additions-requires : tie.Need-additions-requires Inv-loop μ-loop
+additions-requires c κs =
+    let t = c .before .before .before in
+    let l = t .before .before .before .before in
+    let d = run l in
+    let v = l .loop .inv in
+    let b = start d .pre .0 in
+    let order = b .passes .limits .order-most in (
+      order,
+      d .before .before .before .column-starts .ensures,
+      d .before .before .column-ends .ensures,
+      few-times (v .3) order (v .2 .between .last) (t .take-last .ensures) (omega (arith, steps-have-room b, v .0)),
+    )
 
 returns : tie.Need-returns Inv-loop μ-loop
 returns c =
-    let l = c .before .loop in
-    let e : l .j ≡ start (c .before .before .before .before) .args .made = omega arith in
-    (rw e at (l .inv .2 .residuals), rw e at (l .inv .2 .digits))
+    let t = c .before .before .before .before in
+    let e = t .before .before .before in
+    let l = e .before in
+    let v = l .loop .inv in
+    let b = start (run l) .pre .0 in
+    let o : l .loop .j ≡ start (run l) .args .made = omega arith in
+    let a = additions-are (v .3) (b .passes .limits .order-most) (v .2 .between .last) (t .take-last .ensures) (c .additions .ensures) in
+    (rw o at (v .2 .residuals), (rw o at (v .2 .digits), rw o at a))
 
 pub run-by-spans-spec : {M : Type 1} → statement M
 run-by-spans-spec =
@@ -98,17 +139,20 @@ run-by-spans-spec =
     (tie.spec
     Inv-loop
     μ-loop
-    radix-requires
+    radix-by-shift-requires
     sum-factor-requires
     inner-bits-requires
     column-starts-requires
     column-ends-requires
     last-digits-requires
     first-sums-requires
+    first-times-requires
     loop-holds
     add-step-by-spans
     step-by-spans-requires
     add-j
     loop-less
     loop-again
+    take-last-requires
+    additions-requires
     returns)

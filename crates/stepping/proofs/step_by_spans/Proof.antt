@@ -1,14 +1,17 @@
 -- The digits are chosen and stored, and the rows are summed with them.
 use mathlib.Core.Path.{refl}
-use Rattle.stepping.proofs.Stepping.{rows-summed, may-choose, may-sum, stepped}
+use Rattle.stepping.proofs.Stepping.{rows-summed, may-choose, may-sum, new-counted, stepped}
 use Rattle.stepping.proofs.step_by_spans.Statement.{statement}
 use Rattle.stepping.proofs.step_by_spans.Tie as tie
 
 choose-requires : tie.Need-choose-requires
-choose-requires c κs = let p = c .before .before .before .before .pre in may-choose (p .0) refl (p .4)
+choose-requires c κs =
+    let p = c .before .before .before .before .before .pre in
+    let m = may-choose (p .0) refl (p .4) in
+    (m .0, m .1, m .2, m .3, m .4, p .5)
 
 abbrev start : tie.After-choose → tie.Start
-start d = d .before .before .before .before .before
+start d = d .before .before .before .before .before .before
 
 column-sums-requires : tie.Need-column-sums-requires
 column-sums-requires c κs =
@@ -22,7 +25,8 @@ returns c =
     let d = c .before .before .before in
     let p = start d .pre in
     let q = rows-summed _ (p .3) (p .0 .may .passes .limits .order-most) (c .column-sums .ensures) in
-    (stepped (p .0) refl (d .choose .ensures .0) (d .choose .ensures .1 .1) (d .choose .ensures .1 .0) (q .1), q .0)
+    let e = d .choose .ensures in
+    (stepped (p .0) refl (e .0) (e .1 .1 .0) (e .1 .0) (q .1), (q .0, new-counted (p .0) refl (e .0) (start d .args .times .now) (e .1 .1 .1)))
 
 pub step-by-spans-spec : {M : Type 1} → statement M
 step-by-spans-spec = tie.close (tie.spec choose-requires column-sums-requires returns)

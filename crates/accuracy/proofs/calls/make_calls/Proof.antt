@@ -3,15 +3,15 @@
 use Prim.Native.Nat.{_-_}
 use native.Mathlib.Omega.{arith}
 use lib.ListN.{length}
-use Rattle.accuracy.proofs.Parts.{Turn, turn-first, turn-next, turn-last}
+use Rattle.accuracy.proofs.Parts.{Turn, turn-first, turn-next, turn-counts, turn-last}
 use Rattle.accuracy.proofs.calls.make_calls.Statement.{statement}
 use Rattle.accuracy.proofs.calls.make_calls.Tie as tie
 
 abbrev Inv-loop : tie.InvT-loop
-Inv-loop words list₀ t₀ place₀ i₀ list t place i = Turn t₀ words list₀ list t place i
+Inv-loop words list₀ t₀ additions₀ place₀ i₀ list t additions place i = Turn t₀ words list₀ list t additions place i
 
 abbrev μ-loop : tie.MeasureT-loop
-μ-loop words list₀ t₀ place₀ i₀ list t place i = length words - i
+μ-loop words list₀ t₀ additions₀ place₀ i₀ list t additions place i = length words - i
 
 loop-holds : tie.Need-loop-holds Inv-loop μ-loop
 loop-holds c = let a = c .before .args in turn-first (a .s) (a .words .now) (a .list .now)
@@ -49,15 +49,27 @@ part-make-call-end c = omega arith
 make-call-requires : tie.Need-make-call-requires Inv-loop μ-loop
 make-call-requires c κs = tt
 
-loop-again : tie.Need-loop-again Inv-loop μ-loop
-loop-again c =
-    let l = c .before .before .before .before .before .before .before .before in
+add-additions : tie.Need-add-additions Inv-loop μ-loop
+add-additions c =
+    let w = c .before .before .before .before .before .before .before in
+    let l = w .before in
     let a = l .before .before .args in
     let m = c .before .before .before .make-call in
-    turn-next (a .s) (a .words .now) (a .list .now) (l .loop .list) (l .loop .t) (l .loop .place) (l .loop .i) (l .loop .inv) (omega arith) (m .result) _ (m .ensures .0) (m .ensures .1)
+    omega (arith, turn-counts (a .s) (a .words .now) (a .list .now) (l .loop .list) (l .loop .t) (l .loop .additions) (l .loop .place) (l .loop .i) (l .loop .inv) (w .loop-test .taken) (m .result) (m .ensures .0) (l .before .before .pre))
 
+loop-again : tie.Need-loop-again Inv-loop μ-loop
+loop-again c =
+    let w = c .before .before .before .before .before .before .before .before in
+    let l = w .before in
+    let a = l .before .before .args in
+    let m = c .before .before .before .before .make-call in
+    turn-next (a .s) (a .words .now) (a .list .now) (l .loop .list) (l .loop .t) (l .loop .additions) (l .loop .place) (l .loop .i) (l .loop .inv) (w .loop-test .taken) (m .result) _ (m .ensures .0) (m .ensures .1)
+
+-- the places stay within the list lent, whose length the borrow checker bounds
 add-place : tie.Need-add-place Inv-loop μ-loop
-add-place c = omega (arith, loop-again c .within, loop-again c .room)
+add-place c =
+    let l = c .before .before .before .before .before .before .before .before .before in
+    omega (arith, loop-again c .within, loop-again c .room, l .before .before .good .1 .1 .0)
 
 add-i : tie.Need-add-i Inv-loop μ-loop
 add-i c = omega arith
@@ -72,7 +84,7 @@ returns : tie.Need-returns Inv-loop μ-loop
 returns c =
     let l = c .before in
     let a = l .before .before .args in
-    turn-last (a .s) (a .words .now) (a .list .now) (l .loop .list) (l .loop .t) (l .loop .place) (l .loop .i) (l .loop .inv) (omega arith)
+    turn-last (a .s) (a .words .now) (a .list .now) (l .loop .list) (l .loop .t) (l .loop .additions) (l .loop .place) (l .loop .i) (l .loop .inv) (omega arith)
 
 pub make-calls-spec : {M : Type 1} → statement M
 make-calls-spec =
@@ -92,6 +104,7 @@ make-calls-spec =
     part-make-call-start
     part-make-call-end
     make-call-requires
+    add-additions
     add-place
     add-i
     loop-less

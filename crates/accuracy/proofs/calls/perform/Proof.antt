@@ -1,6 +1,6 @@
 -- The answer and the list are those of the calls, of which demand 3 holds.
 use borrow.Author.Needs.{needs}
-use Rattle.accuracy.proofs.Performed.{performed-refused, performed-accepted}
+use Rattle.accuracy.proofs.Performed.{performed-refused, performed-passes, performed-accepted}
 use Rattle.accuracy.proofs.calls.perform.Statement.{statement}
 use Rattle.accuracy.proofs.calls.perform.Tie as tie
 
@@ -14,7 +14,11 @@ returns c =
     performed-refused (a .frame .now) (a .words .now) (a .out .now) (l .load .result) (l .load .ensures) (c .if1 .taken)
 
 make-calls-requires : tie.Need-make-calls-requires
-make-calls-requires c κs = search needs
+make-calls-requires c κs =
+    let f = c .before .before in
+    let l = f .before .before in
+    let a = l .before .before .before .args in
+    performed-passes (a .frame .now) (a .words .now) (a .out .now) (l .load .result) (l .load .ensures) (f .if1 .left)
 
 same-length : tie.Need-same-length
 same-length c = search needs
