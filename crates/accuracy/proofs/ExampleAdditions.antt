@@ -1,7 +1,7 @@
 -- `additions-counted`, `additions-most` and `additions-by-kind` of demand 3 on case E with an x of 3, a
 -- polynomial, and on case B with a q_1 of 3, a rational curve: from the statement alone, the additions that
 -- calls counted, and the most that they can be. In E both bounds are met.
-use mathlib.Core.Path.{_≡_}
+use mathlib.Core.Path.{_≡_, ap, _∙_}
 use mathlib.Core.List.{List, [], _∷_}
 use Prim.Native.Nat.{_≤_}
 use native.Mathlib.Omega.{arith}
@@ -12,7 +12,7 @@ use Rattle.system.specs.System.{curve-entry, matrix, right-side}
 use Rattle.additions.specs.Additions.{step-additions, additions, entries}
 use Rattle.scale.specs.Scale.{every}
 use Rattle.recurrence.specs.Recurrence.{shifted, next-digit, next-residual, digit, residual, select, rounded, estimate, cut-down, digit-size}
-use Rattle.accuracy.specs.Accuracy.{Call, advance, readings, budgets, Accurate, after, additions-made}
+use Rattle.accuracy.specs.Accuracy.{Call, advance, readings, budgets, job-additions, Accurate, after, additions-made}
 use Rattle.accuracy.proofs.Demand3.{accurate}
 use Rattle.accuracy.proofs.ExampleE.{frame-E, one-step-E, accepted-E, steps-one}
 use Rattle.accuracy.proofs.Examples.{frame-B, accepted-B}
@@ -31,7 +31,7 @@ module _ (holds : (calls : List Call) → Accurate frame-E calls) where
   -- the digits of row 2 are 1 and -1 in the first two steps: the second step has an addition, and the third
   counted-E : additions-made frame-E three-steps-E ≡ 2
   unfolding frame-E additions step-additions total field number bits values-from decode curve-entry matrix right-side every dot sum digit residual shifted next-digit next-residual select rounded estimate cut-down digit-size
-  counted-E = rw steps-three at (holds three-steps-E .additions-counted)
+  counted-E = holds three-steps-E .additions-counted ∙ ap (job-additions frame-E) steps-three
 
   -- three steps cannot have more, and a single one has none
   most-E : (additions-made frame-E three-steps-E ≤ 2) × (additions-made frame-E one-step-E ≤ 0)
@@ -57,7 +57,7 @@ module _ (holds : (calls : List Call) → Accurate frame-B calls) where
   -- one addition, two, and one
   counted-B : additions-made frame-B mixed-B ≡ 4
   unfolding frame-B additions step-additions total field number bits values-from decode curve-entry matrix right-side every dot sum digit residual shifted next-digit next-residual select rounded estimate cut-down digit-size
-  counted-B = rw steps-B at (holds mixed-B .additions-counted)
+  counted-B = holds mixed-B .additions-counted ∙ ap (job-additions frame-B) steps-B
 
   -- at most five times the two entries, more than which no rational curve of order 2 has
   most-B : additions-made frame-B mixed-B ≤ 10

@@ -12,6 +12,7 @@ ghost use Rattle.selection.specs.Inner.{lesser, greater};
 mod entries; // entries.rt: the table
 
 pub use entries::ESTIMATES;
+pub use entries::fill_table;
 pub use entries::table;
 
 // The estimate of w in 32nds of a unit: w cut down to five fraction bits. A shift rounds downward, for a

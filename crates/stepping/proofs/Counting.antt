@@ -5,7 +5,7 @@ use mathlib.Core.Bool.{Bool, true, false, cond}
 use mathlib.Core.List.{List}
 use mathlib.Core.Logic.{_⊎_, inl, inr}
 use Prim.Native.Nat.{ℕ, zero, suc, _+_, _-_, _*_, _^_, _<_, _≤_}
-use native.Mathlib.Nat.{mul-le-mul-left, mul-le-mul-right}
+use native.Mathlib.Nat.{mul-le-mul}
 use native.Mathlib.Numerals.{add-one}
 use native.Mathlib.Omega.{arith}
 use borrow.Author.Tests.{ne-eqb}
@@ -17,14 +17,16 @@ use lib.Signed.{mag}
 use mir.Facts.{toZ-ofZ}
 use mir.Syntax.{w8, w64}
 use mir.Val.{SFits, toZ, ofZ}
-use Rattle.integers.specs.{Flat.entry, Sum.total}
+use Rattle.integers.specs.{Flat.at, Flat.entry, Sum.total}
 use Rattle.integers.proofs.Absolute.{abs-zero}
 use Rattle.integers.proofs.Machine.{i8-kept, i64-kept}
 use Rattle.integers.proofs.Maximum.{le-or-lt}
 use Rattle.integers.proofs.Sum.{total-zero, total-suc, total-split, total-none, total-le}
 use Rattle.additions.specs.Additions.{nonzero}
+use Rattle.state.specs.State.{digits-of}
 use Rattle.column.specs.Column.{column, Zeros}
-use Rattle.stepping.specs.Inner.{Counts, MayCount, counted, column-entries}
+use Rattle.stepping.proofs.Digits.{step-digit}
+use Rattle.stepping.specs.Inner.{Counts, MayCount, MayMultiply, counted, column-entries}
 
 -- ---- one digit, or one entry
 
@@ -48,6 +50,15 @@ added-of {w} h e o = o ∙ rw (i64-kept w h, e) refl
 -- and of one that `widen` gave
 pub added-digit : (x : ℤ) {w : ℤ} {a : ℕ} → mag x < 2 ^ 7 → mag w < 2 ^ 63 → w ≡ toZ w8 (ofZ w8 x) → a ≡ nonzero (toZ w64 (ofZ w64 w)) → a ≡ nonzero x
 added-digit x h l e o = added-of l (e ∙ i8-kept x h) o
+
+-- of a digit in the array of all steps
+pub added-step : (ds : List ℤ) (k j : ℕ) {w : ℤ} {a : ℕ} → (k ≡ 0 → ⊥) → mag (at ds (16 * (k - 1) + j)) < 2 ^ 7 → mag w < 2 ^ 63 → w ≡ toZ w8 (ofZ w8 (at ds (16 * (k - 1) + j)))
+    → a ≡ nonzero (toZ w64 (ofZ w64 w)) → a ≡ nonzero (digits-of ds k j)
+added-step ds k j ne h l e o = added-digit (at ds (16 * (k - 1) + j)) h l e o ∙ rw (step-digit ds k j ne) refl
+
+-- of no digit, before the first step
+pub none-first : (ds : List ℤ) (k j : ℕ) → k ≡ 0 → 0 ≡ nonzero (digits-of ds k j)
+none-first ds k j e = rw e refl
 
 -- ---- a loop over the columns
 
@@ -129,21 +140,22 @@ module _ (g : List ℤ) (j : ℕ) where
 
 -- ---- the additions
 
-module _ {n : ℕ} (g : List ℤ) (t : List ℕ) (order : n ≤ 16) (few : (j : ℕ) → j < n → getD t j 0 ≤ 60) where
+module _ {n : ℕ} (e t : List ℕ) (d : ℕ → ℤ) (h : MayMultiply n e t d) where
   abbrev term : ℕ → ℕ
-  term j = getD t j 0 * column-entries n g j
+  term j = (getD t j 0 - nonzero (d j)) * getD e j 0
 
-  term-most : (j : ℕ) → j < n → term j ≤ 960
+  term-most : (j : ℕ) → j < n → term j ≤ 976
   term-most j l =
-      omega (arith, mul-le-mul-right (column-entries n g j) (few j l), mul-le-mul-left 60 (entries-few g j n))
+      let m : getD t j 0 - nonzero (d j) ≤ 61 = omega (arith, h .few j l) in
+      mul-le-mul m (h .entries j l)
 
-  -- nothing leaves 64 bits, `c` being what `column_entries` gave
-  pub product-small : (j : ℕ) → j < n → {c : ℕ} → c ≡ column-entries n g j → getD t j 0 * c ≤ 960
-  product-small j l e = rw e (term-most j l)
+  -- nothing leaves 64 bits, `x` being what `added_after` gave
+  pub product-small : (j : ℕ) → j < n → {x : ℕ} → x ≡ nonzero (d j) → (getD t j 0 - x) * getD e j 0 ≤ 976
+  product-small j l o = rw o (term-most j l)
 
-  pub additions-small : (j : ℕ) → j ≤ n → total j term ≤ 15360
-  additions-small j l = omega (arith, total-le j term 960 (λ i m. term-most i (omega arith)))
+  pub additions-small : n ≤ 16 → (j : ℕ) → j ≤ n → total j term ≤ 15616
+  additions-small order j l = omega (arith, total-le j term 976 (λ i m. term-most i (omega arith)))
 
   -- one column more
-  pub additions-next : (j : ℕ) {a c x : ℕ} → a ≡ total j term → c ≡ column-entries n g j → x ≡ a + getD t j 0 * c → x ≡ total (j + 1) term
-  additions-next j e o p = p ∙ rw (e, o) (sym (rw add-one (total-suc j term)))
+  pub additions-next : (j : ℕ) {a x : ℕ} → a ≡ total j term → x ≡ nonzero (d j) → a + (getD t j 0 - x) * getD e j 0 ≡ total (j + 1) term
+  additions-next j o p = rw (o, p) (sym (rw add-one (total-suc j term)))

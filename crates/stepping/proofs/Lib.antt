@@ -5,13 +5,13 @@ pub mod ColumnSpan
 pub mod ColumnSum
 pub mod Table
 pub mod Listing
+pub mod Digits
 pub mod Counting
 pub mod Limits
 pub mod Stepped
 pub mod Steps
 pub mod Follow
 pub mod Kept
-pub mod Digits
 pub mod Stepping
 pub mod Counted
 pub mod Additions

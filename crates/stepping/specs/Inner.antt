@@ -174,14 +174,11 @@ pub record MayCount (n : ℕ) (t : List ℕ) : Type 0 where
   pub size : length t ≡ 16
   pub room : (j : ℕ) → j < n → getD t j 0 < 255
 
--- the digits d may be taken off the counts
-pub record MayTake (d : List ℤ) (t : List ℕ) : Type 0 where
-  pub size : length t ≡ 16
-  pub enough : (j : ℕ) → j < 16 → nonzero (at d j) ≤ getD t j 0
-
--- no column is added in more than 60 steps
-abbrev pub FewTimes : (n : ℕ) (t : List ℕ) → Type 0
-FewTimes n t = (j : ℕ) → j < n → getD t j 0 ≤ 60
+-- the counts t without the digits d may be multiplied by the entries e
+pub record MayMultiply (n : ℕ) (e t : List ℕ) (d : ℕ → ℤ) : Type 0 where
+  pub enough : (j : ℕ) → j < n → nonzero (d j) ≤ getD t j 0
+  pub few : (j : ℕ) → j < n → getD t j 0 ≤ 61
+  pub entries : (j : ℕ) → j < n → getD e j 0 ≤ 16
 
 -- the entries of column j other than 0
 abbrev pub column-entries : (n : ℕ) (g : List ℤ) (j : ℕ) → ℕ

@@ -1,14 +1,15 @@
-// How many additions the steps make (document 02, request 6). It is counted in how many steps each column is
-// added, where its digit is chosen; these counts times the columns' entries other than 0, which are looked at
-// once and not in each step, are the additions.
+// How many additions the steps make (document 02, request 6). It is counted how many digits of each column are
+// other than 0, where they are chosen; these counts times the columns' entries other than 0, which are looked
+// at once and not in each step, are the additions.
 ghost use mathlib.Core.Path.{_≡_};
 ghost use Prim.Native.Nat.{_+_, _-_, _*_, _<_, _≤_};
 ghost use lib.ListN.{getD};
-ghost use Rattle.integers.specs.Flat.{at};
 ghost use Rattle.integers.specs.Sum.{total};
 ghost use Rattle.additions.specs.Additions.{nonzero};
-ghost use Rattle.stepping.specs.Inner.{Start, Starts, End, Ends, Counts, MayTake, FewTimes, column-entries};
+ghost use Rattle.state.specs.State.{digits-of};
+ghost use Rattle.stepping.specs.Inner.{Start, Starts, End, Ends, Counts, MayMultiply, column-entries};
 use job::ROWS;
+use state::DIGITS;
 use system::ENTRIES;
 
 // 1 for a digit other than 0, whose column the next step adds, and 0 for one whose column it skips.
@@ -18,38 +19,42 @@ pub fn added(d: i64) -> u8
     if d == 0 { 0 } else { 1 }
 }
 
-// For each column whether the step after the digits d adds it.
-pub fn first_times(d: &[i8; ROWS]) -> [u8; ROWS]
-    ensures { λ t. ⌜ Counts 16 (λ j. nonzero (at (now (d .entry)) j)) t ⌝ }
+// The same of column j's digit of step k in the array of all digits; 0 before the first step.
+fn added_after(digits: &[i8; DIGITS], k: usize, j: usize) -> u8
+    requires { ⌜ (k ≤ 60) × (j < 16) ⌝ }
+    ensures { λ r. ⌜ r ≡ nonzero (digits-of (now (digits .entry)) k j) ⌝ }
+{
+    if k == 0 {
+        return 0;
+    }
+    added(integers::widen(digits[16 * (k - 1) + j]))
+}
+
+// For each column whether the step after the k-th adds it.
+pub fn first_times(digits: &[i8; DIGITS], k: usize) -> [u8; ROWS]
+    requires { ⌜ k ≤ 60 ⌝ }
+    ensures { λ t. ⌜ Counts 16 (λ j. nonzero (digits-of (now (digits .entry)) k j)) t ⌝ }
 {
     let mut t = [0u8; ROWS];
     let mut j: usize = 0;
     while j < ROWS {
-        t[j] = added(integers::widen(d[j]));
+        t[j] = added_after(digits, k, j);
         j += 1;
     }
     t
 }
 
-// Takes the digits d, of the last step, off the counts: no step that is made has added their columns.
-pub fn take_last(d: &[i8; ROWS], t: &mut [u8; ROWS])
-    requires { ⌜ MayTake (now d) (now t) ⌝ }
-    ensures { λ _. ⌜ Counts 16 (λ j. getD (now (t .entry)) j 0 - nonzero (at (now (d .entry)) j)) (now (t .exit)) ⌝ }
-{
-    let mut j: usize = 0;
-    while j < ROWS {
-        t[j] = t[j] - added(integers::widen(d[j]));
-        j += 1;
-    }
-}
-
-// How many entries other than 0 column j has. It has none before row lo, and none from row hi on.
+// How many entries other than 0 column j has. It has none before row lo, and none from row hi on. A curve's
+// columns have one entry; so the first row stands before the loop, which then has nothing left to do.
 fn column_entries(g: &[i64; ENTRIES], j: usize, lo: usize, hi: usize, n: usize) -> usize
     requires { ⌜ (j < 16) × (n ≤ 16) × Start n (now g) j lo × End n (now g) j hi ⌝ }
     ensures { λ c. ⌜ c ≡ column-entries n (now (g .entry)) j ⌝ }
 {
-    let mut c: usize = 0;
-    let mut i = lo;
+    if hi <= lo {
+        return 0;
+    }
+    let mut c = super::signs::counted(g[16 * lo + j], 0);
+    let mut i = lo + 1;
     while i < hi {
         c = super::signs::counted(g[16 * i + j], c);
         i += 1;
@@ -57,21 +62,41 @@ fn column_entries(g: &[i64; ENTRIES], j: usize, lo: usize, hi: usize, n: usize) 
     c
 }
 
-// The additions, where column j was added in t[j] steps.
-pub fn additions<'a>(
+// The entries other than 0 of each column.
+pub fn entries<'a>(
     g: &'a [i64; ENTRIES],
     starts: &'a [usize; ROWS],
     ends: &'a [usize; ROWS],
+    n: usize,
+) -> [usize; ROWS]
+    requires { ⌜ (n ≤ 16) × Starts n (now g) (now starts) × Ends n (now g) (now ends) ⌝ }
+    ensures { λ e. ⌜ Counts n (column-entries n (now (g .entry))) e ⌝ }
+{
+    let mut e = [0usize; ROWS];
+    let mut j: usize = 0;
+    while j < n {
+        e[j] = column_entries(g, j, starts[j], ends[j], n);
+        j += 1;
+    }
+    e
+}
+
+// The additions, where t[j] digits of column j are other than 0, that of step k included, with which no step
+// made has added, and column j has e[j] entries.
+pub fn additions<'a>(
+    e: &'a [usize; ROWS],
     t: &'a [u8; ROWS],
+    digits: &'a [i8; DIGITS],
+    k: usize,
     n: usize,
 ) -> usize
-    requires { ⌜ (n ≤ 16) × Starts n (now g) (now starts) × Ends n (now g) (now ends) × FewTimes n (now t) ⌝ }
-    ensures { λ a. ⌜ a ≡ total n (λ j. getD (now (t .entry)) j 0 * column-entries n (now (g .entry)) j) ⌝ }
+    requires { ⌜ (k ≤ 60) × (n ≤ 16) × MayMultiply n (now e) (now t) (digits-of (now digits) k) ⌝ }
+    ensures { λ a. ⌜ a ≡ total n (λ j. (getD (now (t .entry)) j 0 - nonzero (digits-of (now (digits .entry)) k j)) * getD (now (e .entry)) j 0) ⌝ }
 {
     let mut a: usize = 0;
     let mut j: usize = 0;
     while j < n {
-        a = a + (t[j] as usize) * column_entries(g, j, starts[j], ends[j], n);
+        a = a + ((t[j] - added_after(digits, k, j)) as usize) * e[j];
         j += 1;
     }
     a

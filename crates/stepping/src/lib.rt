@@ -139,7 +139,7 @@ fn run_by_spans(
     let mut before = last_digits(digits, k, n);
     let mut chosen = [0i8; ROWS];
     let mut sums = first_sums(g, &before, n, k);
-    let mut times = counts::first_times(&before);
+    let mut times = counts::first_times(digits, k);
     let mut j: usize = 0;
     while j < made {
         let newest = step_by_spans(
@@ -164,8 +164,8 @@ fn run_by_spans(
         before = newest;
         j += 1;
     }
-    counts::take_last(&before, &mut times);
-    counts::additions(g, &starts, &ends, &times, n)
+    let entries = counts::entries(g, &starts, &ends, n);
+    counts::additions(&entries, &times, digits, k + made, n)
 }
 
 // The same step in radix 2, with each column added or taken off, and those whose digit is 0 left out of the
@@ -230,11 +230,12 @@ fn run_by_signs(
     let n = h.n;
     let q = job::sum_factor(h, scale);
     let bits = job::inner_bits(h, scale);
-    let columns = signs::columns(g, n);
+    let mut entries = [0usize; ROWS];
+    let columns = signs::columns(g, n, &mut entries);
     let mut before = last_digits(digits, k, n);
     let mut chosen = [0i8; ROWS];
     let mut sums = first_sums(g, &before, n, k);
-    let mut times = counts::first_times(&before);
+    let mut times = counts::first_times(digits, k);
     let mut j: usize = 0;
     while j < made {
         let newest = step_by_signs(
@@ -257,10 +258,7 @@ fn run_by_signs(
         before = newest;
         j += 1;
     }
-    counts::take_last(&before, &mut times);
-    let starts = [0usize; ROWS];
-    let ends = [n; ROWS];
-    counts::additions(g, &starts, &ends, &times, n)
+    counts::additions(&entries, &times, digits, k + made, n)
 }
 
 // Whether steps with columns added or taken off are likely to be faster, the time to place the columns
@@ -301,7 +299,8 @@ pub fn make_steps(
     ensures digits { λ _. ⌜ now (digits .exit) ≡ steps (state-of true h scale k (now (g .entry)) (now (z .entry)) (now (digits .entry))) made .digits ⌝ }
     ensures additions { λ a. ⌜ a ≡ steps-additions (state-of true h scale k (now (g .entry)) (now (z .entry)) (now (digits .entry))) made ⌝ }
 {
-    let choices = selection::table();
+    let mut choices = [0i8; ESTIMATES];
+    selection::fill_table(&mut choices);
     if signs_pay(g, h.n, h.p, made) {
         run_by_signs(h, scale, k, made, &choices, g, z, digits)
     } else {

@@ -4,8 +4,9 @@
 ghost use mathlib.Core.Path.{_≡_};
 ghost use Prim.Native.Nat.{_+_, _*_, _<_, _≤_};
 ghost use lib.IntN.{natAbs};
+ghost use lib.ListN.{length};
 ghost use Rattle.stepping.specs.Steps.{filled};
-ghost use Rattle.stepping.specs.Inner.{Tabulated, Columns, MayTabulate, column-place, counted, MayAdd, added, MayAddListed, ListedSums};
+ghost use Rattle.stepping.specs.Inner.{Counts, column-entries, Tabulated, Columns, MayTabulate, column-place, counted, MayAdd, added, MayAddListed, ListedSums};
 use job::ROWS;
 use system::ENTRIES;
 
@@ -13,29 +14,35 @@ use system::ENTRIES;
 pub const BOTH: usize = 2 * ENTRIES;
 
 // Column j, in the rows below n: its negative in the first half, itself in the second. The other rows keep
-// their zeros.
-fn place_column(g: &[i64; ENTRIES], n: usize, j: usize, t: &mut [i64; BOTH])
+// their zeros. How many of its entries are other than 0.
+fn place_column(g: &[i64; ENTRIES], n: usize, j: usize, t: &mut [i64; BOTH]) -> usize
     requires { ⌜ (n ≤ 16) × (j < n) × MayTabulate n (now g) × Tabulated n (now g) (now t) (16 * j) ⌝ }
-    ensures { λ _. ⌜ Tabulated n (now (g .entry)) (now (t .exit)) (16 * (j + 1)) ⌝ }
+    ensures placed { λ _. ⌜ Tabulated n (now (g .entry)) (now (t .exit)) (16 * (j + 1)) ⌝ }
+    ensures entries { λ c. ⌜ c ≡ column-entries n (now (g .entry)) j ⌝ }
 {
+    let mut c: usize = 0;
     let mut i: usize = 0;
     while i < n {
         let v = g[16 * i + j];
         t[16 * j + i] = 0 - v;
         t[256 + (16 * j + i)] = v;
+        c = counted(v, c);
         i += 1;
     }
+    c
 }
 
-// The columns of the matrix and their negatives, each with its 16 rows one after the other.
-pub fn columns(g: &[i64; ENTRIES], n: usize) -> [i64; BOTH]
-    requires { ⌜ (n ≤ 16) × MayTabulate n (now g) ⌝ }
-    ensures { λ t. ⌜ Columns n (now (g .entry)) t ⌝ }
+// The columns of the matrix and their negatives, each with its 16 rows one after the other, and in `entries`
+// how many of each column's entries are other than 0.
+pub fn columns(g: &[i64; ENTRIES], n: usize, entries: &mut [usize; ROWS]) -> [i64; BOTH]
+    requires { ⌜ (n ≤ 16) × MayTabulate n (now g) × (length (now entries) ≡ 16) ⌝ }
+    ensures columns { λ t. ⌜ Columns n (now (g .entry)) t ⌝ }
+    ensures entries { λ _. ⌜ Counts n (column-entries n (now (g .entry))) (now (entries .exit)) ⌝ }
 {
     let mut t = [0i64; BOTH];
     let mut j: usize = 0;
     while j < n {
-        place_column(g, n, j, &mut t);
+        entries[j] = place_column(g, n, j, &mut t);
         j += 1;
     }
     t

@@ -3,8 +3,8 @@ use borrow.Author.Needs.{needs}
 use Rattle.stepping.proofs.make_steps.Statement.{statement}
 use Rattle.stepping.proofs.make_steps.Tie as tie
 
-table-requires : tie.Need-table-requires
-table-requires c κs = search needs
+fill-table-requires : tie.Need-fill-table-requires
+fill-table-requires c κs = search needs
 
 signs-pay-requires : tie.Need-signs-pay-requires
 signs-pay-requires c κs = search needs
@@ -13,7 +13,7 @@ run-by-signs-requires : tie.Need-run-by-signs-requires
 run-by-signs-requires c κs =
     let t = c .before .before .before in
     let d = t .before .before in
-    (d .before .pre, t .before .signs-pay .ensures (t .if1 .taken), d .table .ensures)
+    (d .before .before .pre, t .before .signs-pay .ensures (t .if1 .taken), d .fill-table .ensures)
 
 run-by-spans-requires : tie.Need-run-by-spans-requires
 run-by-spans-requires c κs = search needs
@@ -28,7 +28,7 @@ pub make-steps-spec : {M : Type 1} → statement M
 make-steps-spec =
     tie.close
     (tie.spec
-    table-requires
+    fill-table-requires
     signs-pay-requires
     run-by-signs-requires
     run-by-spans-requires

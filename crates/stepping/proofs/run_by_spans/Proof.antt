@@ -2,12 +2,12 @@
 -- is what is left of the steps to be made.
 use mathlib.Core.Path.{_≡_}
 use mathlib.Core.Bool.{true}
-use Prim.Native.Nat.{_-_, _≤_}
+use Prim.Native.Nat.{_+_, _-_, _≤_}
 use native.Mathlib.Omega.{arith}
 use lib.ListN.{length}
 use Rattle.state.specs.Inner.{state-of}
 use Rattle.stepping.proofs.Stepping.{Reached, may-sum-first, reached-start, reached-may, reached-next, steps-have-room}
-use Rattle.stepping.proofs.Counted.{Counted, counted-start, may-count, counted-next, may-take, few-times, additions-are}
+use Rattle.stepping.proofs.Counted.{Counted, counted-start, may-count, counted-next, may-multiply, additions-are}
 use Rattle.stepping.proofs.run_by_spans.Statement.{statement}
 use Rattle.stepping.proofs.run_by_spans.Tie as tie
 
@@ -46,7 +46,9 @@ first-sums-requires : tie.Need-first-sums-requires Inv-loop μ-loop
 first-sums-requires c κs = let d = c .before in may-sum-first (start d .pre .0 .passes) (d .last-digits .ensures)
 
 first-times-requires : tie.Need-first-times-requires Inv-loop μ-loop
-first-times-requires c κs = tt
+first-times-requires c κs =
+    let b = start (c .before .before .before) .pre .0 in
+    omega (arith, steps-have-room b)
 
 loop-holds : tie.Need-loop-holds Inv-loop μ-loop
 loop-holds c =
@@ -55,7 +57,7 @@ loop-holds c =
     let p = start d .pre .0 .passes in
     let j : 0 ≤ start d .args .made = omega arith in
     let q = reached-start p (d .last-digits .ensures) (f .first-sums .ensures) in
-    (j, q .0, q .1, counted-start _ (p .limits .order-most) (d .last-digits .ensures) (c .first-times .ensures))
+    (j, q .0, q .1, counted-start _ (p .limits .order-most) (c .first-times .ensures))
 
 -- ---- a turn
 
@@ -102,35 +104,36 @@ loop-again c =
 abbrev run : tie.At-loop Inv-loop μ-loop → tie.After-last-digits Inv-loop μ-loop
 run l = l .before .before .before .before .before
 
-take-last-requires : tie.Need-take-last-requires Inv-loop μ-loop
-take-last-requires c κs =
-    let l = c .before .before .before in
-    let v = l .loop .inv in
-    may-take (v .3) (start (run l) .pre .0 .passes .limits .order-most) (v .2 .between .last)
+entries-requires : tie.Need-entries-requires Inv-loop μ-loop
+entries-requires c κs =
+    let d = run (c .before .before .before) in
+    (start d .pre .0 .passes .limits .order-most, d .before .before .before .column-starts .ensures, d .before .before .column-ends .ensures)
+
+add-additions : tie.Need-add-additions Inv-loop μ-loop
+add-additions c =
+    let d = run (c .before .before .before .before .before .before .before) in
+    omega (arith, steps-have-room (start d .pre .0))
 
 additions-requires : tie.Need-additions-requires Inv-loop μ-loop
 additions-requires c κs =
-    let t = c .before .before .before in
-    let l = t .before .before .before .before in
-    let d = run l in
+    let e = c .before .before .before in
+    let l = e .before .before .before .before in
+    let b = start (run l) .pre .0 in
     let v = l .loop .inv in
-    let b = start d .pre .0 in
-    let order = b .passes .limits .order-most in (
-      order,
-      d .before .before .before .column-starts .ensures,
-      d .before .before .column-ends .ensures,
-      few-times (v .3) order (v .2 .between .last) (t .take-last .ensures) (omega (arith, steps-have-room b, v .0)),
-    )
+    let o : l .loop .j ≡ start (run l) .args .made = omega arith in
+    let m : start (run l) .args .k + start (run l) .args .made ≡ start (run l) .args .k + l .loop .j = omega arith in
+    let order = b .passes .limits .order-most in
+    (steps-have-room b, order, may-multiply (v .3) order m (v .2 .digits) (e .entries .ensures) (omega (arith, steps-have-room b, v .0)))
 
 returns : tie.Need-returns Inv-loop μ-loop
 returns c =
-    let t = c .before .before .before .before in
-    let e = t .before .before .before in
-    let l = e .before in
-    let v = l .loop .inv in
+    let e = c .before .before .before .before in
+    let l = e .before .before .before .before in
     let b = start (run l) .pre .0 in
+    let v = l .loop .inv in
     let o : l .loop .j ≡ start (run l) .args .made = omega arith in
-    let a = additions-are (v .3) (b .passes .limits .order-most) (v .2 .between .last) (t .take-last .ensures) (c .additions .ensures) in
+    let m : start (run l) .args .k + start (run l) .args .made ≡ start (run l) .args .k + l .loop .j = omega arith in
+    let a = additions-are (v .3) (b .passes .limits .order-most) m (v .2 .digits) (e .entries .ensures) (c .additions .ensures) in
     (rw o at (v .2 .residuals), (rw o at (v .2 .digits), rw o at a))
 
 pub run-by-spans-spec : {M : Type 1} → statement M
@@ -153,6 +156,7 @@ run-by-spans-spec =
     add-j
     loop-less
     loop-again
-    take-last-requires
+    entries-requires
+    add-additions
     additions-requires
     returns)

@@ -14,8 +14,12 @@ Inv-loop g j lo hi n c₀ i₀ c i = (lo ≤ i) × (i ≤ n) × (c ≡ column-en
 abbrev μ-loop : tie.MeasureT-loop
 μ-loop g j lo hi n c₀ i₀ c i = hi - i
 
-loop-holds : tie.Need-loop-holds Inv-loop μ-loop
-loop-holds c = let p = c .pre .2 in (omega arith, p .0, no-entries (c .args .g .now) (c .args .j) _ (p .1))
+returns : tie.Need-returns Inv-loop μ-loop
+returns c =
+    let p = c .before in
+    let s = p .pre .2 in
+    no-entries (p .args .g .now) (p .args .j) _ (s .1)
+    ∙ entries-all (p .args .g .now) (p .args .j) (p .args .n) (p .args .lo) (s .0) (λ t a b. p .pre .3 .1 t (omega (arith, c .if1 .taken)) b)
 
 mul-counted : tie.Need-mul-counted Inv-loop μ-loop
 mul-counted c = omega arith
@@ -30,14 +34,42 @@ element-copy-out-counted : tie.Need-element-copy-out-counted Inv-loop μ-loop
 element-copy-out-counted c = omega arith
 
 counted-requires : tie.Need-counted-requires Inv-loop μ-loop
-counted-requires c κs =
-    let i = c .before in
-    let l = i .before .loop in
-    let p = i .before .before in
-    omega (arith, entries-few (p .args .g .now) (p .args .j) (l .i), l .inv .2, i .loop-test .taken, p .pre .3 .0, p .pre .1)
+counted-requires c κs = omega arith
 
 add-i : tie.Need-add-i Inv-loop μ-loop
 add-i c = omega arith
+
+loop-holds : tie.Need-loop-holds Inv-loop μ-loop
+loop-holds c =
+    let e = c .before .before in
+    let p = e .before in
+    let s = p .pre .2 in (
+      omega arith,
+      omega (arith, e .if1 .left, p .pre .3 .0),
+      entries-next (p .args .g .now) (p .args .j) (p .args .lo) (c .before .counted-arg .given) (no-entries (p .args .g .now) (p .args .j) _ (s .1)) (c .counted .ensures),
+    )
+
+mul-counted-3 : tie.Need-mul-counted-3 Inv-loop μ-loop
+mul-counted-3 c = omega arith
+
+add-counted-2 : tie.Need-add-counted-2 Inv-loop μ-loop
+add-counted-2 c = omega arith
+
+mul-counted-4 : tie.Need-mul-counted-4 Inv-loop μ-loop
+mul-counted-4 c = omega arith
+
+element-copy-out-counted-2 : tie.Need-element-copy-out-counted-2 Inv-loop μ-loop
+element-copy-out-counted-2 c = omega arith
+
+counted-requires-2 : tie.Need-counted-requires-2 Inv-loop μ-loop
+counted-requires-2 c κs =
+    let i = c .before in
+    let l = i .before .loop in
+    let p = i .before .before .before .before .before in
+    omega (arith, entries-few (p .args .g .now) (p .args .j) (l .i), l .inv .2, i .loop-test .taken, p .pre .3 .0, p .pre .1)
+
+add-i-2 : tie.Need-add-i-2 Inv-loop μ-loop
+add-i-2 c = omega arith
 
 loop-less : tie.Need-loop-less Inv-loop μ-loop
 loop-less c = omega arith
@@ -46,19 +78,18 @@ loop-again : tie.Need-loop-again Inv-loop μ-loop
 loop-again c =
     let i = c .before .before in
     let l = i .before .loop in
-    let p = i .before .before in (
+    let p = i .before .before .before .before .before in (
       omega (arith, l .inv .0),
       omega (arith, i .loop-test .taken, p .pre .3 .0),
-      entries-next (p .args .g .now) (p .args .j) (l .i) (c .before .counted-arg .given) (l .inv .2) (c .counted .ensures),
+      entries-next (p .args .g .now) (p .args .j) (l .i) (c .before .counted-arg2 .given) (l .inv .2) (c .counted2 .ensures),
     )
 
-returns : tie.Need-returns Inv-loop μ-loop
-returns c =
+returns-2 : tie.Need-returns-2 Inv-loop μ-loop
+returns-2 c =
     let l = c .before .loop in
-    let p = c .before .before in
+    let p = c .before .before .before .before .before in
     l .inv .2
-    ∙ entries-all (p .args .g .now) (p .args .j) (p .args .n) (l .i) (l .inv .1)
-    (λ t a b. p .pre .3 .1 t (omega (arith, c .loop-test .left)) b)
+    ∙ entries-all (p .args .g .now) (p .args .j) (p .args .n) (l .i) (l .inv .1) (λ t a b. p .pre .3 .1 t (omega (arith, c .loop-test .left)) b)
 
 pub column-entries-spec : {M : Type 1} → statement M
 column-entries-spec =
@@ -66,13 +97,20 @@ column-entries-spec =
     (tie.spec
     Inv-loop
     μ-loop
-    loop-holds
+    returns
     mul-counted
     add-counted
     mul-counted-2
     element-copy-out-counted
     counted-requires
     add-i
+    loop-holds
+    mul-counted-3
+    add-counted-2
+    mul-counted-4
+    element-copy-out-counted-2
+    counted-requires-2
+    add-i-2
     loop-less
     loop-again
-    returns)
+    returns-2)
