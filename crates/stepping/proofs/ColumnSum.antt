@@ -1,7 +1,7 @@
 -- The rows' sums, one column after the other: how they begin, with column 0 or with none, one column more,
 -- and when all are added. Cited by the proofs of `begin_sums`, `column_sums` and `first_sums`.
 use mathlib.Core.Path.{_≡_, refl, sym, ap, _∙_}
-use mathlib.Core.List.{List}
+use mathlib.Core.List.{List, [], _∷_}
 use mathlib.Core.Logic.{_⊎_, inl, inr}
 use Prim.Native.Nat.{ℕ, _+_, _-_, _*_, _^_, _<_, _≤_}
 use native.Mathlib.Omega.{arith}
@@ -14,11 +14,12 @@ use Rattle.integers.specs.Sum.{Within, dot, weight}
 use Rattle.integers.specs.Flat.{at, entry, stores}
 use Rattle.integers.proofs.Machine.{bounded, machs, machine-eq}
 use Rattle.integers.proofs.Maximum.{le-or-lt}
+use Rattle.integers.proofs.Normal.{solve, polys}
 use Rattle.integers.proofs.Product.{dot-zero, dot-suc, abs-dot, weight-le, entry-le-weight}
 use Rattle.column.specs.Column.{MayAddColumn, column-added}
 use Rattle.column.proofs.Added.{length-column-next, column-next-past, column-next}
 use Rattle.stepping.specs.Steps.{filled}
-use Rattle.stepping.specs.Inner.{row-dot, MaySum, MaySumRows, Start, End, MayBegin, first-product}
+use Rattle.stepping.specs.Inner.{row-dot, MaySum, MaySumRows, Start, End, MayBegin, Begun, first-product}
 use Rattle.stepping.proofs.Stepped.{length-filled, filled-past, filled-row, at-zeros}
 
 -- ---- what may be summed is small
@@ -60,6 +61,25 @@ module _ {n : ℕ} {g : List ℤ} {d : ℤ} (h : MayBegin n g d) (i : ℕ) (l : 
       let k : x ≡ entry g i 0 *ℤ d = e ∙ rw (entry-read, digit-read) (+ℤ-idl (entry g i 0 *ℤ d)) in
       ap (λ (y : ℤ). toZ w64 (ofZ w64 y)) k ∙ product-kept (entry g i 0) d (h .entries i l) (h .digit)
 
+-- from the products, put into v, or from 0 where the column has no entry
+pub begun-products : {n : ℕ} {g : List ℤ} {d : ℤ} (v : List ℤ) {s : List ℤ} → n ≤ 16 → length v ≡ 16 → s ≡ filled (first-product g d) v n → Begun n g d s
+begun-products {n} {g} {d} v order size e =
+    record {
+      size = rw e (length-filled (first-product g d) v n ∙ size);
+      rows = λ i l. rw e (filled-row (first-product g d) v n i l (omega (arith, size)));
+    }
+
+pub begun-none : {n : ℕ} {g : List ℤ} (d : ℤ) {lo hi : ℕ} → n ≤ 16 → Start n g 0 lo → End n g 0 hi → hi ≤ lo → Begun n g d (replicate 16 (pos 0))
+begun-none {n} {g} d {lo} {hi} order a b h =
+    record { size = refl; rows = λ i l. at-zeros i ∙ sym (rw (none i l (le-or-lt hi i)) (zero-product d)) }
+  where
+    none : (i : ℕ) → i < n → (hi ≤ i) ⊎ (i < hi) → entry g i 0 ≡ pos 0
+    none i l (inl m) = b .1 i m l
+    none i l (inr m) = a .1 i (omega arith) (omega arith)
+
+    zero-product : (d : ℤ) → pos 0 *ℤ d ≡ pos 0
+    zero-product d = solve (d ∷ []) (search polys depth 9) (search polys depth 9) tt
+
 -- ---- the columns below j
 
 -- s has the sums of the rows below n over the columns below j, and past them what s₀ has
@@ -85,16 +105,9 @@ module _ {n : ℕ} {g d : List ℤ} (order : n ≤ 16) (h : MaySumRows n g d) wh
   may-begin a x e =
       record { entries = λ i l. entry-small (h i l) 0 a; digit = rw (lent 0 a x e) (h 0 a .digits 0 a) }
 
-  pub sums-begun : (s : List ℤ) {s₁ : List ℤ} → 0 < n → length s ≡ 16 → (x : ℤ) → x ≡ toZ w8 (ofZ w8 (at d 0))
-      → s₁ ≡ filled (first-product g (toZ w64 (ofZ w64 x))) s n → SoFar n 1 g d s s₁
-  sums-begun s {s₁} a size x ex k =
-      let f = first-product g (at d 0) in
-      let e : s₁ ≡ filled f s n = rw (lent 0 a x ex) at k in
-      record {
-        size = rw e (length-filled f s n ∙ size);
-        rows = λ i l. rw e (filled-row f s n i l (omega (arith, size)) ∙ one i);
-        past = λ i l. rw e (filled-past f s n i l);
-      }
+  pub sums-begun : {s : List ℤ} → 0 < n → (x : ℤ) → x ≡ toZ w8 (ofZ w8 (at d 0)) → Begun n g (toZ w64 (ofZ w64 x)) s → SoFar n 1 g d s s
+  sums-begun a x ex k =
+      record { size = k .size; rows = λ i l. k .rows i l ∙ rw (lent 0 a x ex) (one i); past = λ i l. refl }
     where
       one : (i : ℕ) → entry g i 0 *ℤ at d 0 ≡ dot 1 (entry g i) (at d)
       one i = sym (dot-suc 0 (entry g i) (at d) ∙ rw (dot-zero (entry g i) (at d)) (+ℤ-idl (entry g i 0 *ℤ at d 0)))

@@ -61,6 +61,11 @@ pub record MayBegin (n : ℕ) (g : List ℤ) (d : ℤ) : Type 0 where
 abbrev pub first-product : (g : List ℤ) (d : ℤ) (i : ℕ) → ℤ
 first-product g d i = entry g i 0 *ℤ d
 
+-- s has them in the rows below n
+pub record Begun (n : ℕ) (g : List ℤ) (d : ℤ) (s : List ℤ) : Type 0 where
+  pub size : length s ≡ 16
+  pub rows : (i : ℕ) → i < n → at s i ≡ first-product g d i
+
 -- ---- the columns and their negatives, for digits of radix 2: a half of 256 for the negatives and one for
 -- the columns, in each of which the 16 rows of a column stand one after the other
 

@@ -5,7 +5,7 @@ ghost use mathlib.Core.Path.{_≡_};
 ghost use Prim.Native.Nat.{_<_, _≤_};
 ghost use lib.ListN.{length};
 ghost use Rattle.stepping.specs.Steps.{filled};
-ghost use Rattle.stepping.specs.Inner.{row-dot, MaySumRows, Start, Starts, End, Ends, MayBegin, first-product};
+ghost use Rattle.stepping.specs.Inner.{Summed, MaySumRows, Start, Starts, End, Ends, MayBegin, Begun, first-product};
 use job::ROWS;
 use system::ENTRIES;
 
@@ -67,8 +67,8 @@ pub fn column_ends(g: &[i64; ENTRIES], n: usize) -> [usize; ROWS]
     hi
 }
 
-// Begins the sums of the rows below n with column 0, whose digit is d; the other words of s stay.
-fn begin_sums(g: &[i64; ENTRIES], d: i64, n: usize, s: &mut [i64; ROWS])
+// The products of column 0, whose digit is d, in the rows below n; the other words of s stay.
+fn first_products(g: &[i64; ENTRIES], d: i64, n: usize, s: &mut [i64; ROWS])
     requires { ⌜ (n ≤ 16) × MayBegin n (now g) d ⌝ }
     ensures { λ _. ⌜ now (s .exit) ≡ filled (first-product (now (g .entry)) d) (now (s .entry)) n ⌝ }
 {
@@ -79,7 +79,21 @@ fn begin_sums(g: &[i64; ENTRIES], d: i64, n: usize, s: &mut [i64; ROWS])
     }
 }
 
-// The sum of each row below n with the digits d, in s, one column after the other; the other words of s stay.
+// Begins the sums of the rows below n with column 0, whose digit is d. It has no entry before row lo and none
+// from row hi on; that of a polynomial has none at all, and then the sums begin with 0.
+fn begin_sums(g: &[i64; ENTRIES], lo: usize, hi: usize, d: i64, n: usize, s: &mut [i64; ROWS])
+    requires { ⌜ (n ≤ 16) × MayBegin n (now g) d × Start n (now g) 0 lo × End n (now g) 0 hi × (length (now s) ≡ 16) ⌝ }
+    ensures { λ _. ⌜ Begun n (now (g .entry)) d (now (s .exit)) ⌝ }
+{
+    if hi <= lo {
+        *s = [0i64; ROWS];
+        return;
+    }
+    first_products(g, d, n, s);
+}
+
+// The sum of each row below n with the digits d, in s, one column after the other. What the other words of s
+// are is not said.
 pub fn column_sums<'a>(
     g: &'a [i64; ENTRIES],
     starts: &'a [usize; ROWS],
@@ -89,9 +103,9 @@ pub fn column_sums<'a>(
     s: &mut [i64; ROWS],
 )
     requires { ⌜ (1 ≤ n) × (n ≤ 16) × (length (now s) ≡ 16) × MaySumRows n (now g) (now d) × Starts n (now g) (now starts) × Ends n (now g) (now ends) ⌝ }
-    ensures { λ _. ⌜ now (s .exit) ≡ filled (row-dot n (now (g .entry)) (now (d .entry))) (now (s .entry)) n ⌝ }
+    ensures { λ _. ⌜ (length (now (s .exit)) ≡ 16) × Summed n (now (g .entry)) (now (d .entry)) (now (s .exit)) ⌝ }
 {
-    begin_sums(g, integers::widen(d[0]), n, s);
+    begin_sums(g, starts[0], ends[0], integers::widen(d[0]), n, s);
     let mut j: usize = 1;
     while j < n {
         column::add_column(g, j, starts[j], ends[j], integers::widen(d[j]), s);

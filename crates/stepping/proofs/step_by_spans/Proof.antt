@@ -1,6 +1,6 @@
 -- The digits are chosen and stored, and the rows are summed with them.
 use mathlib.Core.Path.{refl}
-use Rattle.stepping.proofs.Stepping.{rows-summed, may-choose, may-sum, new-counted, stepped}
+use Rattle.stepping.proofs.Stepping.{may-choose, may-sum, new-counted, stepped}
 use Rattle.stepping.proofs.step_by_spans.Statement.{statement}
 use Rattle.stepping.proofs.step_by_spans.Tie as tie
 
@@ -24,7 +24,7 @@ returns : tie.Need-returns
 returns c =
     let d = c .before .before .before in
     let p = start d .pre in
-    let q = rows-summed _ (p .3) (p .0 .may .passes .limits .order-most) (c .column-sums .ensures) in
+    let q = c .column-sums .ensures in
     let e = d .choose .ensures in
     (stepped (p .0) refl (e .0) (e .1 .1 .0) (e .1 .0) (q .1), (q .0, new-counted (p .0) refl (e .0) (start d .args .times .now) (e .1 .1 .1)))
 

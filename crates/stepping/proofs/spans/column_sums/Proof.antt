@@ -1,9 +1,9 @@
 -- The invariant: the rows have their sums over the columns below j. The measure is what is left of the
 -- columns.
-use mathlib.Core.Path.{_≡_, refl}
+use mathlib.Core.Path.{_≡_}
 use Prim.Native.Nat.{_-_, _≤_}
 use native.Mathlib.Omega.{arith}
-use Rattle.stepping.proofs.ColumnSum.{SoFar, may-begin, sums-begun, may-add-next, sums-more, sums-done}
+use Rattle.stepping.proofs.ColumnSum.{SoFar, may-begin, sums-begun, may-add-next, sums-more}
 use Rattle.stepping.proofs.spans.column_sums.Statement.{statement}
 use Rattle.stepping.proofs.spans.column_sums.Tie as tie
 
@@ -13,6 +13,12 @@ Inv-loop g starts ends d n s₀ j₀ s j = (j ≤ n) × SoFar n j g d s₀ s
 abbrev μ-loop : tie.MeasureT-loop
 μ-loop g starts ends d n s₀ j₀ s j = n - j
 
+element-copy-out-begin-sums : tie.Need-element-copy-out-begin-sums Inv-loop μ-loop
+element-copy-out-begin-sums c = omega arith
+
+element-copy-out-begin-sums-2 : tie.Need-element-copy-out-begin-sums-2 Inv-loop μ-loop
+element-copy-out-begin-sums-2 c = omega arith
+
 element-copy-out-widen : tie.Need-element-copy-out-widen Inv-loop μ-loop
 element-copy-out-widen c = omega arith
 
@@ -21,20 +27,16 @@ widen-requires c κs = tt
 
 begin-sums-requires : tie.Need-begin-sums-requires Inv-loop μ-loop
 begin-sums-requires c κs =
-    let p = c .before .before .before .pre in
-    (p .1, may-begin (p .1) (p .3) (p .0) _ (c .before .widen .ensures))
+    let p = c .before .before .before .before .before .pre in
+    (p .1, may-begin (p .1) (p .3) (p .0) _ (c .before .widen .ensures), p .4 0 (p .0), p .5 0 (p .0), p .2)
 
 abbrev start : tie.After-begin-sums Inv-loop μ-loop → tie.Start Inv-loop μ-loop
-start c = c .before .before .before .before
-
--- the sums with column 0
-begun : (c : tie.After-begin-sums Inv-loop μ-loop) → let a = start c .args in SoFar (a .n) 1 (a .g .now) (a .d .now) (a .s .now) (c .begin-sums .last .1 .1 .1 .0)
-begun c =
-    let a = start c in
-    sums-begun (a .pre .1) (a .pre .3) (a .args .s .now) (a .pre .0) (a .pre .2) _ (c .before .before .widen .ensures) (c .begin-sums .ensures)
+start c = c .before .before .before .before .before .before
 
 loop-holds : tie.Need-loop-holds Inv-loop μ-loop
-loop-holds c = let b = begun c in (start c .pre .0, record { size = b .size; rows = b .rows; past = λ i l. refl })
+loop-holds c =
+    let a = start c in
+    (a .pre .0, sums-begun (a .pre .1) (a .pre .3) (a .pre .0) _ (c .before .before .widen .ensures) (c .begin-sums .ensures))
 
 mul-add-column : tie.Need-mul-add-column Inv-loop μ-loop
 mul-add-column c = omega arith
@@ -82,7 +84,8 @@ returns c =
     let a = start b in
     let l = c .before .loop in
     let e : l .j ≡ a .args .n = omega (arith, l .inv .0, c .loop-test .left) in
-    sums-done (a .pre .1) (a .pre .3) (a .args .s .now) (a .pre .2) (begun b .past) (rw e at (l .inv .1))
+    let f = rw e at (l .inv .1) in
+    (f .size, record { rows = f .rows })
 
 pub column-sums-spec : {M : Type 1} → statement M
 column-sums-spec =
@@ -90,6 +93,8 @@ column-sums-spec =
     (tie.spec
     Inv-loop
     μ-loop
+    element-copy-out-begin-sums
+    element-copy-out-begin-sums-2
     element-copy-out-widen
     widen-requires
     begin-sums-requires
