@@ -160,8 +160,8 @@ pub record Accurate (frame : List ℕ) (calls : List Call) : Type 0 where
   pub later-digits : (j i : ℕ) → after frame calls .k < j → j ≤ all-steps → i < order frame → held-digit frame calls j i ≡ pos 0
   -- the additions that the calls counted in all are those of the steps made
   pub additions-counted : additions-made frame calls ≡ job-additions frame (after frame calls .k)
-  -- after k steps they are at most k - 1 times the entries of G other than 0, and so at most k - 1 times n - 1
-  -- for a polynomial and 2 (n - 1) for a rational curve; after 0 steps there are none
+  -- after k steps they are at most k - 1 times the entries of G other than 0, and so at most k - 1 times
+  -- n - 1 for a polynomial and 2 (n - 1) for a rational curve; after 0 steps there are none
   pub additions-most : additions-made frame calls ≤ (after frame calls .k - 1) * entries (order frame) (G frame)
   pub additions-by-kind : additions-made frame calls ≤ (after frame calls .k - 1) * most-entries (kind frame) (order frame)
   -- the scale that the state holds, and hands on with every reading, is the frame's

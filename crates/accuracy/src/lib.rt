@@ -40,8 +40,8 @@ fn steps_allowed(list: &[u64], last: usize) -> usize
 
 // Loads a frame, makes the steps that an advance for each budget makes, and writes a reading for each row
 // to `out`. Refused as load is, by 1 to 8 and 15, and then as readings are, by 23; a refusal changes no word
-// of `out`. The steps of all advances are made at once, and a state that load made is not looked at again. With
-// 23 the steps are made too, as the advances make them, and counted.
+// of `out`. The steps of all advances are made at once, and a state that load made is not looked at again.
+// With 23 the steps are made too, as the advances make them, and counted.
 pub fn evaluate(frame: &[u8], budgets: &[u64], out: &mut [i64]) -> Evaluated
     ensures { λ r. ⌜ Promise (now (frame .entry)) (now (budgets .entry)) (now (out .entry)) r (now (out .exit)) ⌝ }
 {

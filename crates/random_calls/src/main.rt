@@ -1,12 +1,12 @@
-// Calls on states that no load made: any numbers in any field, and jobs made from cases A and E with an x
-// of 3, of the scales 0 and 1, with random changes, so that some of them pass 24. After each call what its
+// Calls on states that no load made: any numbers in any field, and jobs made from cases A and E with an x of
+// 3, of the scales 0 and 1, with random changes, so that some of them pass 24. After each call what its
 // contract says is looked at again, word by word: a refused advance makes 0 steps and no addition and gives
-// back every word of the state; an accepted one counts the growth of k, and keeps the header, the scale, the matrix, the
-// digits of the steps before and of the steps still to come, and all that stands past the n-th row; a
-// refused readings keeps every word of the list, and an accepted one keeps the words past the n-th; so do the
-// running sums, with the words that they count. It prints how many calls of advance, of readings and of the
-// running sums there were for each refusal number, 0 for the accepted ones, and `ok`; at a difference it
-// prints `wrong`.
+// back every word of the state; an accepted one counts the growth of k, and keeps the header, the scale, the
+// matrix, the digits of the steps before and of the steps still to come, and all that stands past the n-th
+// row; a refused readings keeps every word of the list, and an accepted one keeps the words past the n-th; so
+// do the running sums, with the words that they count. It prints how many calls of advance, of readings and
+// of the running sums there were for each refusal number, 0 for the accepted ones, and `ok`; at a difference
+// it prints `wrong`.
 //
 // Each turn makes the steps of these two jobs as well, by load, advance and readings, by evaluate and by
 // perform, which are to give the same words and to count as many additions.

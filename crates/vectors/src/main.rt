@@ -6,9 +6,9 @@
 // A frame is printed as `edigits` prints it. Of its columns the running sums are printed after 0, 1 and 2
 // steps and after all: the steps made, and the words; or `refused`, the number, and the row of a heavy row.
 // Its additions are those of each step in turn; one advance of all steps counts as many. A trace is read and
-// printed: `refused` and the number; or a line kind, r, p, f, n, m, k, and a line for each step, its number and
-// the digits by row. An accepted frame or trace is written again too, and so is the trace of the frame's job; a
-// line `differs`, which the model never prints, says where that gives other bytes.
+// printed: `refused` and the number; or a line kind, r, p, f, n, m, k, and a line for each step, its number
+// and the digits by row. An accepted frame or trace is written again too, and so is the trace of the frame's
+// job; a line `differs`, which the model never prints, says where that gives other bytes.
 use emethod::FrameRead;
 use emethod::FrameWritten;
 use emethod::Header;
