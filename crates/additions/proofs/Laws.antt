@@ -20,9 +20,6 @@ nonzero-most z = by-test (eqb (natAbs z) 0)
     by-test true = omega arith
     by-test false = omega arith
 
-pub nonzero-zero : (z : ℤ) → z ≡ pos 0 → nonzero z ≡ 0
-nonzero-zero z e = rw e
-
 -- ---- column by column
 
 -- how many entries of column j are other than 0
@@ -55,11 +52,6 @@ pub step-additions-ext : (n : ℕ) (G H : ℕ → ℕ → ℤ) (d e : ℕ → �
     → step-additions n G d ≡ step-additions n H e
 unfolding step-additions
 step-additions-ext n G H d e g h = total-ext n _ _ (λ i l. total-ext n _ _ (λ j m. rw (g i j l m, h j m)))
-
-pub additions-ext : (n : ℕ) (G H : ℕ → ℕ → ℤ) (d e : ℕ → ℕ → ℤ) (k : ℕ) → ((i j : ℕ) → i < n → j < n → G i j ≡ H i j)
-    → ((t j : ℕ) → t < k → j < n → d t j ≡ e t j) → additions n G d k ≡ additions n H e k
-unfolding additions
-additions-ext n G H d e k g h = total-ext k _ _ (λ t l. step-additions-ext n G H (d t) (e t) g (λ j. h t j l))
 
 -- ---- how large they are
 

@@ -1,6 +1,6 @@
--- The additions that an advance answers, on case A with an x of 3. G has one entry, in row 1 and column 2, and
--- row 2 has the digits 1, 0, 0, 0, 0: step 2 makes one addition, and no other step makes any. The numbers come
--- out of the statements, from the additions of all steps.
+-- The additions that an advance answers, on case A with an x of 3. G has one entry, in row 1 and column 2,
+-- and row 2 has the digits 1, 0, 0, 0, 0: step 2 makes one addition, and no other step makes any. The numbers
+-- come out of the statements, from the additions of all steps.
 use mathlib.Core.Path.{_≡_, refl}
 use mathlib.Core.List.{List}
 use Prim.Native.Nat.{ℕ, _+_, _<_}

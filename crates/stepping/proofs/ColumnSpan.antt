@@ -1,12 +1,12 @@
 -- The rows in which a column can have an entry other than 0. Cited by the proofs of `column_start`,
 -- `column_end` and the two that call them, and of `first_sums`.
-use mathlib.Core.Path.{_≡_, refl, sym, subst, _∙_}
+use mathlib.Core.Path.{_≡_, refl, sym, _∙_}
 use mathlib.Core.List.{List}
 use mathlib.Core.Logic.{_⊎_, inl, inr}
 use Prim.Native.Nat.{ℕ, _+_, _^_, _<_, _≤_}
 use native.Mathlib.Omega.{arith}
 use lib.IntN.{ℤ, pos}
-use lib.ListN.{length, getD, set, length-set, replicate, getD-replicate}
+use lib.ListN.{length, getD, set, length-set}
 use lib.Seq.{getD-set-same, getD-set-other}
 use lib.Signed.{mag}
 use mir.Syntax.{w64}
@@ -14,7 +14,7 @@ use mir.Val.{ofZ}
 use Rattle.integers.proofs.Maximum.{le-or-lt}
 use Rattle.column.specs.Column.{column, Zeros}
 use Rattle.integers.proofs.Machine.{i64-kept}
-use Rattle.stepping.specs.Inner.{Start, Starts, End, Ends}
+use Rattle.stepping.specs.Inner.{Start, End}
 
 -- an entry whose bits are all 0
 pub read-zero : (x : ℤ) → mag x < 2 ^ 63 → ofZ w64 x ≡ 0 → x ≡ pos 0
@@ -48,13 +48,6 @@ from-first n g j = (omega arith, no-zeros (column g j) 0)
 
 pub to-last : (n : ℕ) (g : List ℤ) (j : ℕ) → End n g j n
 to-last n g j = (omega arith, no-zeros (column g j) n)
-
--- and of each column: from the first row, to the last
-pub starts-first : (n : ℕ) (g : List ℤ) → n ≤ 16 → Starts n g (replicate 16 0)
-starts-first n g h j l = subst (λ lo. Start n g j lo) (sym (getD-replicate 16 j 0 0 (omega arith))) (from-first n g j)
-
-pub ends-last : (n : ℕ) (g : List ℤ) → n ≤ 16 → Ends n g (replicate 16 n)
-ends-last n g h j l = subst (λ hi. End n g j hi) (sym (getD-replicate 16 j n 0 (omega arith))) (to-last n g j)
 
 -- ---- what a loop over the columns finds for each column
 

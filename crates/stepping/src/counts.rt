@@ -1,6 +1,6 @@
-// How many additions the steps make (document 02, request 6). It is counted how many digits of each column are
-// other than 0, where they are chosen; these counts times the columns' entries other than 0, which are looked
-// at once and not in each step, are the additions.
+// How many additions the steps make (document 02, request 6). It is counted how many digits of each column
+// are other than 0, where they are chosen; these counts times the columns' entries other than 0, which are
+// looked at once and not in each step, are the additions.
 ghost use mathlib.Core.Path.{_≡_};
 ghost use Prim.Native.Nat.{_+_, _-_, _*_, _<_, _≤_};
 ghost use lib.ListN.{getD};

@@ -1,5 +1,5 @@
--- The invariant: the entries of the rows below i are counted. Before row lo there are none. The measure is what
--- is left of the rows.
+-- The invariant: the entries of the rows below i are counted. Before row lo there are none. The measure is
+-- what is left of the rows.
 use mathlib.Core.Path.{_≡_, _∙_}
 use Prim.Native.Nat.{_-_, _≤_}
 use native.Mathlib.Omega.{arith}

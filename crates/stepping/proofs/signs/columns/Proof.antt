@@ -1,5 +1,5 @@
--- The invariant: the columns below j stand in the table, and their entries are counted. The measure is what is
--- left of the columns.
+-- The invariant: the columns below j stand in the table, and their entries are counted. The measure is what
+-- is left of the columns.
 use mathlib.Core.Path.{_≡_}
 use Prim.Native.Nat.{_*_, _-_, _≤_}
 use native.Mathlib.Omega.{arith}

@@ -1,5 +1,5 @@
--- The invariant: the rows below i of column j stand in the table, and their entries are counted. The measure is
--- what is left of the rows.
+-- The invariant: the rows below i of column j stand in the table, and their entries are counted. The measure
+-- is what is left of the rows.
 use mathlib.Core.Path.{_≡_}
 use Prim.Native.Nat.{_+_, _*_, _-_, _≤_}
 use native.Mathlib.Omega.{arith}
