@@ -72,14 +72,13 @@ fn choose_row(
 
 // The choice of the step after the k-th: in `new` the digits chosen from the residuals z and the rows' sums s
 // with the digits of the step before, and in z the residuals that they leave. No row uses a digit that this
-// step has chosen. The words past row n stay. In `times` each column is counted that the next step adds.
+// step has chosen. The words past row n stay.
 pub fn choose(
     choices: &[i8; ESTIMATES],
     s: &[i64; ROWS],
     z: &mut [i64; ROWS],
     new: &mut [i8; ROWS],
     digits: &mut [i8; DIGITS],
-    times: &mut [u8; ROWS],
     n: usize,
     k: usize,
     r: usize,
@@ -87,22 +86,20 @@ pub fn choose(
     f: usize,
     p: usize,
 )
-    requires { ⌜ (now choices ≡ selection-table) × (k < 60) × (4 ≤ f) × (f ≤ 44) × MayChoose n r q p (2 ^ f) (now z) (now s) × MayCount n (now times) ⌝ }
+    requires { ⌜ (now choices ≡ selection-table) × (k < 60) × (4 ≤ f) × (f ≤ 44) × MayChoose n r q p (2 ^ f) (now z) (now s) ⌝ }
     ensures digits { λ _. ⌜ now (new .exit) ≡ filled (digit-from r q p (2 ^ f) (now (z .entry)) (now (s .entry))) (now (new .entry)) n ⌝ }
     ensures stored { λ _. ⌜ now (digits .exit) ≡ stores (now (digits .entry)) (λ i. 16 * k + i) (digit-from r q p (2 ^ f) (now (z .entry)) (now (s .entry))) n ⌝ }
     ensures residuals { λ _. ⌜ now (z .exit) ≡ filled (residual-from r q p (2 ^ f) (now (z .entry)) (now (s .entry))) (now (z .entry)) n ⌝ }
-    ensures counted { λ _. ⌜ Counts n (λ j. getD (now (times .entry)) j 0 + nonzero (digit-from r q p (2 ^ f) (now (z .entry)) (now (s .entry)) j)) (now (times .exit)) ⌝ }
 {
     let mut i: usize = 0;
     while i < n {
-        let d = choose_row(choices, s, z, new, digits, i, k, r, q, f, p);
-        times[i] = times[i] + super::counts::added(d);
+        choose_row(choices, s, z, new, digits, i, k, r, q, f, p);
         i += 1;
     }
 }
 
 // The same in radix 2, where digits are -1, 0 and 1, with a list of the columns that the next step adds: the
-// places of those whose digit is not 0, from the first. How many these are.
+// places of those whose digit is not 0, from the first. How many these are. In `times` each of them is counted.
 pub fn choose_and_list(
     choices: &[i8; ESTIMATES],
     s: &[i64; ROWS],

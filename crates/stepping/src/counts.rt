@@ -3,11 +3,12 @@
 // looked at once and not in each step, are the additions.
 ghost use mathlib.Core.Path.{_≡_};
 ghost use Prim.Native.Nat.{_+_, _-_, _*_, _<_, _≤_};
-ghost use lib.ListN.{getD};
+ghost use lib.ListN.{length, getD};
+ghost use Rattle.integers.specs.Flat.{at};
 ghost use Rattle.integers.specs.Sum.{total};
 ghost use Rattle.additions.specs.Additions.{nonzero};
 ghost use Rattle.state.specs.State.{digits-of};
-ghost use Rattle.stepping.specs.Inner.{Start, Starts, End, Ends, Counts, MayMultiply, column-entries};
+ghost use Rattle.stepping.specs.Inner.{Start, Starts, End, Ends, Counts, MayCount, MayMultiply, column-entries};
 use job::ROWS;
 use state::DIGITS;
 use system::ENTRIES;
@@ -44,6 +45,18 @@ pub fn first_times(digits: &[i8; DIGITS], k: usize) -> [u8; ROWS]
     t
 }
 
+// Counts in `times` each column whose digit in d is other than 0, which the next step adds.
+pub fn count_digits(d: &[i8; ROWS], n: usize, times: &mut [u8; ROWS])
+    requires { ⌜ (n ≤ 16) × MayCount n (now times) ⌝ }
+    ensures { λ _. ⌜ Counts n (λ j. getD (now (times .entry)) j 0 + nonzero (at (now (d .entry)) j)) (now (times .exit)) ⌝ }
+{
+    let mut j: usize = 0;
+    while j < n {
+        times[j] = times[j] + added(integers::widen(d[j]));
+        j += 1;
+    }
+}
+
 // How many entries other than 0 column j has. It has none before row lo, and none from row hi on. A curve's
 // columns have one entry; so the first row stands before the loop, which then has nothing left to do.
 fn column_entries(g: &[i64; ENTRIES], j: usize, lo: usize, hi: usize, n: usize) -> usize
@@ -62,23 +75,22 @@ fn column_entries(g: &[i64; ENTRIES], j: usize, lo: usize, hi: usize, n: usize) 
     c
 }
 
-// The entries other than 0 of each column.
+// The entries other than 0 of each column, in e.
 pub fn entries<'a>(
     g: &'a [i64; ENTRIES],
     starts: &'a [usize; ROWS],
     ends: &'a [usize; ROWS],
     n: usize,
-) -> [usize; ROWS]
-    requires { ⌜ (n ≤ 16) × Starts n (now g) (now starts) × Ends n (now g) (now ends) ⌝ }
-    ensures { λ e. ⌜ Counts n (column-entries n (now (g .entry))) e ⌝ }
+    e: &mut [usize; ROWS],
+)
+    requires { ⌜ (n ≤ 16) × Starts n (now g) (now starts) × Ends n (now g) (now ends) × (length (now e) ≡ 16) ⌝ }
+    ensures { λ _. ⌜ Counts n (column-entries n (now (g .entry))) (now (e .exit)) ⌝ }
 {
-    let mut e = [0usize; ROWS];
     let mut j: usize = 0;
     while j < n {
         e[j] = column_entries(g, j, starts[j], ends[j], n);
         j += 1;
     }
-    e
 }
 
 // The additions, where t[j] digits of column j are other than 0, that of step k included, with which no step

@@ -95,21 +95,9 @@ fn step_by_spans<'a>(
 {
     let n = h.n;
     chosen = [0i8; ROWS];
-    choice::choose(
-        choices,
-        sums,
-        z,
-        &mut chosen,
-        digits,
-        times,
-        n,
-        k,
-        r,
-        q,
-        bits,
-        h.p,
-    );
+    choice::choose(choices, sums, z, &mut chosen, digits, n, k, r, q, bits, h.p);
     spans::column_sums(g, starts, ends, &chosen, n, sums);
+    counts::count_digits(&chosen, n, times);
     chosen
 }
 
@@ -134,8 +122,10 @@ fn run_by_spans(
     let r = job::radix_by_shift(h.code);
     let q = job::sum_factor(h, scale);
     let bits = job::inner_bits(h, scale);
-    let starts = spans::column_starts(g, n);
-    let ends = spans::column_ends(g, n);
+    let mut starts = [0usize; ROWS];
+    spans::column_starts(g, n, &mut starts);
+    let mut ends = [0usize; ROWS];
+    spans::column_ends(g, n, &mut ends);
     let mut before = last_digits(digits, k, n);
     let mut chosen = [0i8; ROWS];
     let mut sums = first_sums(g, &before, n, k);
@@ -164,7 +154,8 @@ fn run_by_spans(
         before = newest;
         j += 1;
     }
-    let entries = counts::entries(g, &starts, &ends, n);
+    let mut entries = [0usize; ROWS];
+    counts::entries(g, &starts, &ends, n, &mut entries);
     counts::additions(&entries, &times, digits, k + made, n)
 }
 

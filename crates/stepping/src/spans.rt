@@ -9,62 +9,66 @@ ghost use Rattle.stepping.specs.Inner.{Summed, MaySumRows, Start, Starts
 use job::ROWS;
 use system::ENTRIES;
 
-// The first row below n in which column j has an entry other than 0, or n where there is none.
+// The first row below n in which column j has an entry other than 0, or n where there is none. Rows are looked
+// at two in a turn, which takes less time; so an odd n leaves the last row, which is then given unseen.
 fn column_start(g: &[i64; ENTRIES], j: usize, n: usize) -> usize
     requires { ⌜ (j < 16) × (n ≤ 16) ⌝ }
     ensures { λ lo. ⌜ Start n (now (g .entry)) j lo ⌝ }
 {
     let mut lo: usize = 0;
-    while lo < n {
+    while lo + 1 < n {
         if g[16 * lo + j] != 0 {
             return lo;
         }
-        lo += 1;
+        if g[16 * (lo + 1) + j] != 0 {
+            return lo + 1;
+        }
+        lo += 2;
     }
     lo
 }
 
-// The row after the last one below n in which column j has an entry other than 0, or 0 where there is none.
+// The row after the last one below n in which column j has an entry other than 0, or 0 where there is none. An
+// odd n leaves row 0 unseen, and then it is 1.
 fn column_end(g: &[i64; ENTRIES], j: usize, n: usize) -> usize
     requires { ⌜ (j < 16) × (n ≤ 16) ⌝ }
     ensures { λ hi. ⌜ End n (now (g .entry)) j hi ⌝ }
 {
     let mut hi = n;
-    while 0 < hi {
+    while 1 < hi {
         if g[16 * (hi - 1) + j] != 0 {
             return hi;
         }
-        hi -= 1;
+        if g[16 * (hi - 2) + j] != 0 {
+            return hi - 1;
+        }
+        hi -= 2;
     }
     hi
 }
 
-// For each column the first row in which it has an entry other than 0.
-pub fn column_starts(g: &[i64; ENTRIES], n: usize) -> [usize; ROWS]
-    requires { ⌜ n ≤ 16 ⌝ }
-    ensures { λ lo. ⌜ Starts n (now (g .entry)) lo ⌝ }
+// For each column the first row in which it has an entry other than 0, in `lo`.
+pub fn column_starts(g: &[i64; ENTRIES], n: usize, lo: &mut [usize; ROWS])
+    requires { ⌜ (n ≤ 16) × (length (now lo) ≡ 16) ⌝ }
+    ensures { λ _. ⌜ Starts n (now (g .entry)) (now (lo .exit)) ⌝ }
 {
-    let mut lo = [0usize; ROWS];
     let mut j: usize = 0;
     while j < n {
         lo[j] = column_start(g, j, n);
         j += 1;
     }
-    lo
 }
 
-// For each column the row after the last one in which it has an entry other than 0.
-pub fn column_ends(g: &[i64; ENTRIES], n: usize) -> [usize; ROWS]
-    requires { ⌜ n ≤ 16 ⌝ }
-    ensures { λ hi. ⌜ Ends n (now (g .entry)) hi ⌝ }
+// For each column the row after the last one in which it has an entry other than 0, in `hi`.
+pub fn column_ends(g: &[i64; ENTRIES], n: usize, hi: &mut [usize; ROWS])
+    requires { ⌜ (n ≤ 16) × (length (now hi) ≡ 16) ⌝ }
+    ensures { λ _. ⌜ Ends n (now (g .entry)) (now (hi .exit)) ⌝ }
 {
-    let mut hi = [0usize; ROWS];
     let mut j: usize = 0;
     while j < n {
         hi[j] = column_end(g, j, n);
         j += 1;
     }
-    hi
 }
 
 // The products of column 0, whose digit is d, in the rows below n; the other words of s stay.

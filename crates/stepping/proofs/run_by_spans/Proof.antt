@@ -1,6 +1,6 @@
 -- The invariant: the arrays are the state's after j steps, and the digits up to then are counted. The measure
 -- is what is left of the steps to be made.
-use mathlib.Core.Path.{_≡_}
+use mathlib.Core.Path.{_≡_, refl}
 use mathlib.Core.Bool.{true}
 use Prim.Native.Nat.{_+_, _-_, _≤_}
 use native.Mathlib.Omega.{arith}
@@ -29,18 +29,18 @@ inner-bits-requires : tie.Need-inner-bits-requires Inv-loop μ-loop
 inner-bits-requires c κs = let p = c .before .before .pre .0 .passes in (p .limits, p .scaled)
 
 column-starts-requires : tie.Need-column-starts-requires Inv-loop μ-loop
-column-starts-requires c κs = c .before .before .before .pre .0 .passes .limits .order-most
+column-starts-requires c κs = (c .before .before .before .before .pre .0 .passes .limits .order-most, refl)
 
 column-ends-requires : tie.Need-column-ends-requires Inv-loop μ-loop
-column-ends-requires c κs = c .before .before .before .before .pre .0 .passes .limits .order-most
+column-ends-requires c κs = (c .before .before .before .before .before .before .pre .0 .passes .limits .order-most, refl)
 
 last-digits-requires : tie.Need-last-digits-requires Inv-loop μ-loop
-last-digits-requires c κs = let b = c .before .before .before .before .before .before .pre .0 in (omega (arith, steps-have-room b), b .passes .limits .order-most)
+last-digits-requires c κs = let b = c .before .before .before .before .before .before .before .before .pre .0 in (omega (arith, steps-have-room b), b .passes .limits .order-most)
 
 -- ---- the first sums
 
 abbrev start : tie.After-last-digits Inv-loop μ-loop → tie.Start Inv-loop μ-loop
-start d = d .before .before .before .before .before .before .before
+start d = d .before .before .before .before .before .before .before .before .before
 
 first-sums-requires : tie.Need-first-sums-requires Inv-loop μ-loop
 first-sums-requires c κs = let d = c .before in may-sum-first (start d .pre .0 .passes) (d .last-digits .ensures)
@@ -72,9 +72,9 @@ step-by-spans-requires c κs =
     let i = c .before .before .before .before .before .before in
     let d = begun i in
     let v = i .before .loop .inv in (
-      reached-may (start d .pre .0) (i .loop-test .taken) (v .2) _ _ _ (d .before .before .before .before .before .before .radix-by-shift .ensures)
-          (d .before .before .before .before .before .sum-factor .ensures) (d .before .before .before .before .inner-bits .ensures),
-      d .before .before .before .column-starts .ensures,
+      reached-may (start d .pre .0) (i .loop-test .taken) (v .2) _ _ _ (d .before .before .before .before .before .before .before .before .radix-by-shift .ensures)
+          (d .before .before .before .before .before .before .before .sum-factor .ensures) (d .before .before .before .before .before .before .inner-bits .ensures),
+      d .before .before .before .before .column-starts .ensures,
       d .before .before .column-ends .ensures,
       v .1,
       start d .pre .1,
@@ -106,34 +106,34 @@ run l = l .before .before .before .before .before
 
 entries-requires : tie.Need-entries-requires Inv-loop μ-loop
 entries-requires c κs =
-    let d = run (c .before .before .before) in
-    (start d .pre .0 .passes .limits .order-most, d .before .before .before .column-starts .ensures, d .before .before .column-ends .ensures)
+    let d = run (c .before .before .before .before) in
+    (start d .pre .0 .passes .limits .order-most, d .before .before .before .before .column-starts .ensures, d .before .before .column-ends .ensures, refl)
 
 add-additions : tie.Need-add-additions Inv-loop μ-loop
 add-additions c =
-    let d = run (c .before .before .before .before .before .before .before) in
+    let d = run (c .before .before .before .before .before .before .before .before) in
     omega (arith, steps-have-room (start d .pre .0))
 
 additions-requires : tie.Need-additions-requires Inv-loop μ-loop
 additions-requires c κs =
     let e = c .before .before .before in
-    let l = e .before .before .before .before in
+    let l = e .before .before .before .before .before in
     let b = start (run l) .pre .0 in
     let v = l .loop .inv in
     let o : l .loop .j ≡ start (run l) .args .made = omega arith in
     let m : start (run l) .args .k + start (run l) .args .made ≡ start (run l) .args .k + l .loop .j = omega arith in
     let order = b .passes .limits .order-most in
-    (steps-have-room b, order, may-multiply (v .3) order m (v .2 .digits) (e .entries .ensures) (omega (arith, steps-have-room b, v .0)))
+    (steps-have-room b, order, may-multiply (v .3) order m (v .2 .digits) (e .entries2 .ensures) (omega (arith, steps-have-room b, v .0)))
 
 returns : tie.Need-returns Inv-loop μ-loop
 returns c =
     let e = c .before .before .before .before in
-    let l = e .before .before .before .before in
+    let l = e .before .before .before .before .before in
     let b = start (run l) .pre .0 in
     let v = l .loop .inv in
     let o : l .loop .j ≡ start (run l) .args .made = omega arith in
     let m : start (run l) .args .k + start (run l) .args .made ≡ start (run l) .args .k + l .loop .j = omega arith in
-    let a = additions-are (v .3) (b .passes .limits .order-most) m (v .2 .digits) (e .entries .ensures) (c .additions .ensures) in
+    let a = additions-are (v .3) (b .passes .limits .order-most) m (v .2 .digits) (e .entries2 .ensures) (c .additions .ensures) in
     (rw o at (v .2 .residuals), (rw o at (v .2 .digits), rw o at a))
 
 pub run-by-spans-spec : {M : Type 1} → statement M

@@ -1,17 +1,14 @@
--- The digits are chosen and stored, and the rows are summed with them.
+-- The digits are chosen and stored, the rows are summed with them, and they are counted.
 use mathlib.Core.Path.{refl}
-use Rattle.stepping.proofs.Stepping.{may-choose, may-sum, new-counted, stepped}
+use Rattle.stepping.proofs.Stepping.{may-choose, may-sum, stepped}
 use Rattle.stepping.proofs.step_by_spans.Statement.{statement}
 use Rattle.stepping.proofs.step_by_spans.Tie as tie
 
 choose-requires : tie.Need-choose-requires
-choose-requires c κs =
-    let p = c .before .before .before .before .before .pre in
-    let m = may-choose (p .0) refl (p .4) in
-    (m .0, m .1, m .2, m .3, m .4, p .5)
+choose-requires c κs = let p = c .before .before .before .before .pre in may-choose (p .0) refl (p .4)
 
 abbrev start : tie.After-choose → tie.Start
-start d = d .before .before .before .before .before .before
+start d = d .before .before .before .before .before
 
 column-sums-requires : tie.Need-column-sums-requires
 column-sums-requires c κs =
@@ -20,13 +17,16 @@ column-sums-requires c κs =
     let l = p .0 .may .passes .limits in
     (l .order-least, l .order-most, p .3, may-sum (p .0) refl (d .choose .ensures .0), p .1, p .2)
 
+count-digits-requires : tie.Need-count-digits-requires
+count-digits-requires c κs = let p = start (c .before .before .before .before .before) .pre in (p .0 .may .passes .limits .order-most, p .5)
+
 returns : tie.Need-returns
 returns c =
-    let d = c .before .before .before in
-    let p = start d .pre in
-    let q = c .column-sums .ensures in
+    let s = c .before .before .before in
+    let d = s .before .before .before in
+    let q = s .column-sums .ensures in
     let e = d .choose .ensures in
-    (stepped (p .0) refl (e .0) (e .1 .1 .0) (e .1 .0) (q .1), (q .0, new-counted (p .0) refl (e .0) (start d .args .times .now) (e .1 .1 .1)))
+    (stepped (start d .pre .0) refl (e .0) (e .1 .1) (e .1 .0) (q .1), (q .0, c .count-digits .ensures))
 
 pub step-by-spans-spec : {M : Type 1} → statement M
-step-by-spans-spec = tie.close (tie.spec choose-requires column-sums-requires returns)
+step-by-spans-spec = tie.close (tie.spec choose-requires column-sums-requires count-digits-requires returns)

@@ -1,5 +1,5 @@
 -- The invariant: the entries of the columns below j are counted. The measure is what is left of the columns.
-use mathlib.Core.Path.{_≡_, refl}
+use mathlib.Core.Path.{_≡_}
 use Prim.Native.Nat.{_-_, _≤_}
 use native.Mathlib.Omega.{arith}
 use Rattle.stepping.specs.Inner.{column-entries}
@@ -14,7 +14,7 @@ abbrev μ-loop : tie.MeasureT-loop
 μ-loop g starts ends n e₀ j₀ e j = n - j
 
 loop-holds : tie.Need-loop-holds Inv-loop μ-loop
-loop-holds c = (omega arith, found-none _ _ refl)
+loop-holds c = (omega arith, found-none _ _ (c .pre .3))
 
 mul-column-entries : tie.Need-mul-column-entries Inv-loop μ-loop
 mul-column-entries c = omega arith
@@ -39,8 +39,8 @@ column-entries-requires c κs =
 mul-e : tie.Need-mul-e Inv-loop μ-loop
 mul-e c = omega arith
 
-array-write-e : tie.Need-array-write-e Inv-loop μ-loop
-array-write-e c = omega arith
+element-write-e : tie.Need-element-write-e Inv-loop μ-loop
+element-write-e c = omega arith
 
 add-j : tie.Need-add-j Inv-loop μ-loop
 add-j c = omega arith
@@ -73,7 +73,7 @@ entries-spec =
     element-copy-out-column-entries-2
     column-entries-requires
     mul-e
-    array-write-e
+    element-write-e
     add-j
     loop-less
     loop-again

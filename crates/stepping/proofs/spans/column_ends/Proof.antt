@@ -1,5 +1,4 @@
 -- The invariant: the columns below j have their row. The measure is what is left of the columns.
-use mathlib.Core.Path.{refl}
 use Prim.Native.Nat.{_-_, _≤_}
 use native.Mathlib.Omega.{arith}
 use Rattle.stepping.specs.Inner.{End}
@@ -14,7 +13,7 @@ abbrev μ-loop : tie.MeasureT-loop
 μ-loop g n hi₀ j₀ hi j = n - j
 
 loop-holds : tie.Need-loop-holds Inv-loop μ-loop
-loop-holds c = (omega arith, found-none _ _ refl)
+loop-holds c = (omega arith, found-none _ _ (c .pre .1))
 
 column-end-requires : tie.Need-column-end-requires Inv-loop μ-loop
 column-end-requires c κs = (omega arith, omega arith)
@@ -22,8 +21,8 @@ column-end-requires c κs = (omega arith, omega arith)
 mul-hi : tie.Need-mul-hi Inv-loop μ-loop
 mul-hi c = omega arith
 
-array-write-hi : tie.Need-array-write-hi Inv-loop μ-loop
-array-write-hi c = omega arith
+element-write-hi : tie.Need-element-write-hi Inv-loop μ-loop
+element-write-hi c = omega arith
 
 add-j : tie.Need-add-j Inv-loop μ-loop
 add-j c = omega arith
@@ -46,7 +45,7 @@ column-ends-spec =
     loop-holds
     column-end-requires
     mul-hi
-    array-write-hi
+    element-write-hi
     add-j
     loop-less
     loop-again

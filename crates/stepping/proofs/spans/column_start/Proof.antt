@@ -1,5 +1,6 @@
 -- The invariant: the column has no entry other than 0 before row lo. The measure is what is left of the rows.
-use Prim.Native.Nat.{_-_, _≤_}
+use mathlib.Core.Path.{_≡_}
+use Prim.Native.Nat.{_+_, _-_, _≤_}
 use native.Mathlib.Omega.{arith}
 use Rattle.column.specs.Column.{column, Zeros}
 use Rattle.stepping.proofs.ColumnSpan.{no-zeros, zeros-after, read-zero}
@@ -14,6 +15,9 @@ abbrev μ-loop : tie.MeasureT-loop
 
 loop-holds : tie.Need-loop-holds Inv-loop μ-loop
 loop-holds c = (omega arith, no-zeros _ 0)
+
+add-loop : tie.Need-add-loop Inv-loop μ-loop
+add-loop c = omega arith
 
 mul-if1 : tie.Need-mul-if1 Inv-loop μ-loop
 mul-if1 c = omega arith
@@ -30,6 +34,32 @@ element-copy-out-if1 c = omega arith
 returns : tie.Need-returns Inv-loop μ-loop
 returns c = c .before .before .before .loop .inv
 
+-- the first of the two rows has none
+first-zero : (c : tie.Else1 Inv-loop μ-loop) → let l = c .before .before .before in
+    Zeros (column (l .before .args .g .now) (l .before .args .j)) 0 (l .loop .lo + 1)
+first-zero c = zeros-after _ (c .before .before .before .loop .inv .1) (read-zero _ (c .before .if12 .given) (c .if1 .left))
+
+add-if2 : tie.Need-add-if2 Inv-loop μ-loop
+add-if2 c = omega arith
+
+mul-if2 : tie.Need-mul-if2 Inv-loop μ-loop
+mul-if2 c = omega arith
+
+add-if2-2 : tie.Need-add-if2-2 Inv-loop μ-loop
+add-if2-2 c = omega arith
+
+mul-if2-2 : tie.Need-mul-if2-2 Inv-loop μ-loop
+mul-if2-2 c = omega arith
+
+element-copy-out-if2 : tie.Need-element-copy-out-if2 Inv-loop μ-loop
+element-copy-out-if2 c = omega arith
+
+add-result : tie.Need-add-result Inv-loop μ-loop
+add-result c = omega arith
+
+returns-2 : tie.Need-returns-2 Inv-loop μ-loop
+returns-2 c = (omega arith, first-zero (c .before .before))
+
 add-lo : tie.Need-add-lo Inv-loop μ-loop
 add-lo c = omega arith
 
@@ -38,11 +68,12 @@ loop-less c = omega arith
 
 loop-again : tie.Need-loop-again Inv-loop μ-loop
 loop-again c =
-    let l = c .before .before .before .loop in
-    (omega arith, zeros-after _ (l .inv .1) (read-zero _ (c .before .if12 .given) (c .if1 .left)))
+    let l = c .before .before .before .before .before .loop in
+    let two : l .lo + 2 ≡ l .lo + 1 + 1 = omega arith in
+    (omega arith, rw two (zeros-after _ (first-zero (c .before .before)) (read-zero _ (c .before .if22 .given) (c .if2 .left))))
 
-returns-2 : tie.Need-returns-2 Inv-loop μ-loop
-returns-2 c = c .before .loop .inv
+returns-3 : tie.Need-returns-3 Inv-loop μ-loop
+returns-3 c = c .before .loop .inv
 
 pub column-start-spec : {M : Type 1} → statement M
 column-start-spec =
@@ -51,12 +82,20 @@ column-start-spec =
     Inv-loop
     μ-loop
     loop-holds
+    add-loop
     mul-if1
     add-if1
     mul-if1-2
     element-copy-out-if1
     returns
+    add-if2
+    mul-if2
+    add-if2-2
+    mul-if2-2
+    element-copy-out-if2
+    add-result
+    returns-2
     add-lo
     loop-less
     loop-again
-    returns-2)
+    returns-3)

@@ -1,5 +1,4 @@
 -- The invariant: the columns below j have their row. The measure is what is left of the columns.
-use mathlib.Core.Path.{refl}
 use Prim.Native.Nat.{_-_, _≤_}
 use native.Mathlib.Omega.{arith}
 use Rattle.stepping.specs.Inner.{Start}
@@ -14,7 +13,7 @@ abbrev μ-loop : tie.MeasureT-loop
 μ-loop g n lo₀ j₀ lo j = n - j
 
 loop-holds : tie.Need-loop-holds Inv-loop μ-loop
-loop-holds c = (omega arith, found-none _ _ refl)
+loop-holds c = (omega arith, found-none _ _ (c .pre .1))
 
 column-start-requires : tie.Need-column-start-requires Inv-loop μ-loop
 column-start-requires c κs = (omega arith, omega arith)
@@ -22,8 +21,8 @@ column-start-requires c κs = (omega arith, omega arith)
 mul-lo : tie.Need-mul-lo Inv-loop μ-loop
 mul-lo c = omega arith
 
-array-write-lo : tie.Need-array-write-lo Inv-loop μ-loop
-array-write-lo c = omega arith
+element-write-lo : tie.Need-element-write-lo Inv-loop μ-loop
+element-write-lo c = omega arith
 
 add-j : tie.Need-add-j Inv-loop μ-loop
 add-j c = omega arith
@@ -46,7 +45,7 @@ column-starts-spec =
     loop-holds
     column-start-requires
     mul-lo
-    array-write-lo
+    element-write-lo
     add-j
     loop-less
     loop-again
