@@ -99,7 +99,8 @@ pub fn choose(
 }
 
 // The same in radix 2, where digits are -1, 0 and 1, with a list of the columns that the next step adds: the
-// places of those whose digit is not 0, from the first. How many these are. In `times` each of them is counted.
+// places of those whose digit is not 0, from the first. How many these are. Each of them is counted in
+// `times`.
 pub fn choose_and_list(
     choices: &[i8; ESTIMATES],
     s: &[i64; ROWS],

@@ -9,8 +9,8 @@ ghost use Rattle.stepping.specs.Inner.{Summed, MaySumRows, Start, Starts
 use job::ROWS;
 use system::ENTRIES;
 
-// The first row below n in which column j has an entry other than 0, or n where there is none. Rows are looked
-// at two in a turn, which takes less time; so an odd n leaves the last row, which is then given unseen.
+// The first row below n in which column j has an entry other than 0, or n where there is none. Rows are
+// looked at two in a turn, which takes less time; an odd n leaves the last row, which is then given unseen.
 fn column_start(g: &[i64; ENTRIES], j: usize, n: usize) -> usize
     requires { ⌜ (j < 16) × (n ≤ 16) ⌝ }
     ensures { λ lo. ⌜ Start n (now (g .entry)) j lo ⌝ }
@@ -28,8 +28,8 @@ fn column_start(g: &[i64; ENTRIES], j: usize, n: usize) -> usize
     lo
 }
 
-// The row after the last one below n in which column j has an entry other than 0, or 0 where there is none. An
-// odd n leaves row 0 unseen, and then it is 1.
+// The row after the last one below n in which column j has an entry other than 0, or 0 where there is none.
+// An odd n leaves row 0 unseen, and then it is 1.
 fn column_end(g: &[i64; ENTRIES], j: usize, n: usize) -> usize
     requires { ⌜ (j < 16) × (n ≤ 16) ⌝ }
     ensures { λ hi. ⌜ End n (now (g .entry)) j hi ⌝ }
