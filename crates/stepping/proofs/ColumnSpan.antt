@@ -51,17 +51,17 @@ to-last n g j = (omega arith, no-zeros (column g j) n)
 
 -- ---- what a loop over the columns finds for each column
 
--- v has a number for each column below i, and Q holds of it
-pub record Found (Q : ℕ → ℕ → Type 0) (v : List ℕ) (i : ℕ) : Type 0 where
+-- v has a value for each column below i, and Q holds of it; past the list a value is z
+pub record Found {A : Type 0} (z : A) (Q : ℕ → A → Type 0) (v : List A) (i : ℕ) : Type 0 where
   pub size : length v ≡ 16
-  pub columns : (t : ℕ) → t < i → Q t (getD v t 0)
+  pub columns : (t : ℕ) → t < i → Q t (getD v t z)
 
-pub found-none : (Q : ℕ → ℕ → Type 0) (v : List ℕ) → length v ≡ 16 → Found Q v 0
-found-none Q v h = record { size = h; columns = λ t l. absurd (omega arith) }
+pub found-none : {A : Type 0} (z : A) (Q : ℕ → A → Type 0) (v : List A) → length v ≡ 16 → Found z Q v 0
+found-none z Q v h = record { size = h; columns = λ t l. absurd (omega arith) }
 
-pub found-next : {Q : ℕ → ℕ → Type 0} {v : List ℕ} {i x : ℕ} → i < 16 → Found Q v i → Q i x → Found Q (set v i x) (i + 1)
-found-next {Q} {v} {i} {x} l h q = record { size = length-set v i x ∙ h .size; columns = λ t m. by-case t m (le-or-lt i t) }
+pub found-next : {A : Type 0} {z : A} {Q : ℕ → A → Type 0} {v : List A} {i : ℕ} {x : A} → i < 16 → Found z Q v i → Q i x → Found z Q (set v i x) (i + 1)
+found-next {A} {z} {Q} {v} {i} {x} l h q = record { size = length-set v i x ∙ h .size; columns = λ t m. by-case t m (le-or-lt i t) }
   where
-    by-case : (t : ℕ) → t < i + 1 → (i ≤ t) ⊎ (t < i) → Q t (getD (set v i x) t 0)
-    by-case t m (inl k) = let e : t ≡ i = omega arith in rw (e, getD-set-same v i x 0 (omega (arith, h .size))) q
-    by-case t m (inr k) = rw (getD-set-other v i t x 0 (λ e. omega arith)) (h .columns t k)
+    by-case : (t : ℕ) → t < i + 1 → (i ≤ t) ⊎ (t < i) → Q t (getD (set v i x) t z)
+    by-case t m (inl k) = let e : t ≡ i = omega arith in rw (e, getD-set-same v i x z (omega (arith, h .size))) q
+    by-case t m (inr k) = rw (getD-set-other v i t x z (λ e. omega arith)) (h .columns t k)

@@ -46,7 +46,14 @@ Start n g j lo = (lo ≤ n) × Zeros (column g j) 0 lo
 abbrev pub Starts : (n : ℕ) (g : List ℤ) (starts : List ℕ) → Type 0
 Starts n g starts = (j : ℕ) → j < n → Start n g j (getD starts j 0)
 
--- nor from row hi on
+-- the entry of each column in the row where it starts, if there is such a row
+abbrev pub First : (n : ℕ) (g : List ℤ) (j lo : ℕ) (e : ℤ) → Type 0
+First n g j lo e = lo < n → e ≡ entry g lo j
+
+abbrev pub Firsts : (n : ℕ) (g : List ℤ) (starts : List ℕ) (firsts : List ℤ) → Type 0
+Firsts n g starts firsts = (j : ℕ) → j < n → First n g j (getD starts j 0) (at firsts j)
+
+-- column j has none from row hi on
 abbrev pub End : (n : ℕ) (g : List ℤ) (j hi : ℕ) → Type 0
 End n g j hi = (hi ≤ n) × Zeros (column g j) hi n
 

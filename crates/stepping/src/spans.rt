@@ -5,7 +5,7 @@ ghost use mathlib.Core.Path.{_≡_};
 ghost use Prim.Native.Nat.{_<_, _≤_};
 ghost use lib.ListN.{length};
 ghost use Rattle.stepping.specs.Steps.{filled};
-ghost use Rattle.stepping.specs.Inner.{Summed, MaySumRows, Start, Starts, End, Ends, MayBegin, Begun, first-product};
+ghost use Rattle.stepping.specs.Inner.{Summed, MaySumRows, Start, Starts, First, Firsts, End, Ends, MayBegin, Begun, first-product};
 use job::ROWS;
 use system::ENTRIES;
 
@@ -71,6 +71,35 @@ pub fn column_ends(g: &[i64; ENTRIES], n: usize, hi: &mut [usize; ROWS])
     }
 }
 
+// The entry of column j in row lo; 0 where lo is no row below n.
+fn entry_at(g: &[i64; ENTRIES], j: usize, lo: usize, n: usize) -> i64
+    requires { ⌜ (j < 16) × (n ≤ 16) ⌝ }
+    ensures { λ e. ⌜ First n (now (g .entry)) j lo e ⌝ }
+{
+    if n <= lo {
+        return 0;
+    }
+    g[16 * lo + j]
+}
+
+// For each column its entry in the row where it starts, in `firsts`. Most columns of a curve have no other,
+// and a step then need not look into the matrix.
+pub fn column_firsts<'a>(
+    g: &'a [i64; ENTRIES],
+    starts: &'a [usize; ROWS],
+    n: usize,
+    firsts: &mut [i64; ROWS],
+)
+    requires { ⌜ (n ≤ 16) × (length (now firsts) ≡ 16) ⌝ }
+    ensures { λ _. ⌜ Firsts n (now (g .entry)) (now (starts .entry)) (now (firsts .exit)) ⌝ }
+{
+    let mut j: usize = 0;
+    while j < n {
+        firsts[j] = entry_at(g, j, starts[j], n);
+        j += 1;
+    }
+}
+
 // The products of column 0, whose digit is d, in the rows below n; the other words of s stay.
 fn first_products(g: &[i64; ENTRIES], d: i64, n: usize, s: &mut [i64; ROWS])
     requires { ⌜ (n ≤ 16) × MayBegin n (now g) d ⌝ }
@@ -102,17 +131,26 @@ pub fn column_sums<'a>(
     g: &'a [i64; ENTRIES],
     starts: &'a [usize; ROWS],
     ends: &'a [usize; ROWS],
+    firsts: &'a [i64; ROWS],
     d: &'a [i8; ROWS],
     n: usize,
     s: &mut [i64; ROWS],
 )
-    requires { ⌜ (1 ≤ n) × (n ≤ 16) × (length (now s) ≡ 16) × MaySumRows n (now g) (now d) × Starts n (now g) (now starts) × Ends n (now g) (now ends) ⌝ }
+    requires { ⌜ (1 ≤ n) × (n ≤ 16) × (length (now s) ≡ 16) × MaySumRows n (now g) (now d) × Starts n (now g) (now starts) × Ends n (now g) (now ends) × Firsts n (now g) (now starts) (now firsts) ⌝ }
     ensures { λ _. ⌜ (length (now (s .exit)) ≡ 16) × Summed n (now (g .entry)) (now (d .entry)) (now (s .exit)) ⌝ }
 {
     begin_sums(g, starts[0], ends[0], integers::widen(d[0]), n, s);
     let mut j: usize = 1;
     while j < n {
-        column::add_column(g, j, starts[j], ends[j], integers::widen(d[j]), s);
+        column::add_from(
+            g,
+            firsts[j],
+            j,
+            starts[j],
+            ends[j],
+            integers::widen(d[j]),
+            s,
+        );
         j += 1;
     }
 }

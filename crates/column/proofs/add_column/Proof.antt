@@ -1,187 +1,41 @@
--- The invariant: the rows from i₀, the one after lo, and below i have column j added. The measure is what is
--- left of the rows below hi.
-use mathlib.Core.Path.{_≡_}
-use mathlib.Core.List.{List}
-use Prim.Native.Nat.{_+_, _-_, _<_, _≤_}
+-- Row lo's entry is looked up, and the column added from it on.
 use native.Mathlib.Omega.{arith}
-use lib.IntN.{ℤ}
-use lib.ListN.{set}
-use mir.Syntax.{w64}
-use mir.Val.{toZ, ofZ}
-use Rattle.integers.specs.Flat.{stores}
-use Rattle.column.specs.Column.{MayAddColumn, column-added}
-use Rattle.column.proofs.Added.{digit-kept, may-add-row, row-added, no-row-added, may-add-rest, rows-together}
+use Rattle.integers.proofs.Machine.{i64-kept}
+use Rattle.column.proofs.Added.{digit-kept, no-row-added}
 use Rattle.column.proofs.add_column.Statement.{statement}
 use Rattle.column.proofs.add_column.Tie as tie
 
-abbrev Inv-loop : tie.InvT-loop
-Inv-loop g j lo hi d s₀ i₀ s i = (i₀ ≤ i) × (i ≤ hi) × (s ≡ stores s₀ (λ t. i₀ + t) (column-added g j i₀ (toZ w64 d) s₀) (i - i₀))
-
-abbrev μ-loop : tie.MeasureT-loop
-μ-loop g j lo hi d s₀ i₀ s i = hi - i
-
-returns : tie.Need-returns Inv-loop μ-loop
+returns : tie.Need-returns
 returns c = let a = c .before .args in no-row-added (a .g .now) (a .s .now) (a .j) (a .lo) (a .hi) (a .d) (c .if1 .taken)
 
--- no row is added yet
-none : (c : tie.Start Inv-loop μ-loop) → let a = c .args in
-    a .s .now ≡ stores (a .s .now) (λ t. a .lo + t) (column-added (a .g .now) (a .j) (a .lo) (a .d) (a .s .now)) (a .lo - a .lo)
-none c = let a = c .args in no-row-added (a .g .now) (a .s .now) (a .j) (a .lo) (a .lo) (a .d) (omega arith)
+mul-add-from : tie.Need-mul-add-from
+mul-add-from c = omega (arith, c .if1 .left, c .before .pre .last, c .before .pre .column)
 
--- there is a row lo
-inside : (c : tie.Else1 Inv-loop μ-loop) → c .before .args .lo < 16
-inside c = omega (arith, c .if1 .left, c .before .pre .last)
+add-add-from : tie.Need-add-add-from
+add-add-from c = omega (arith, c .if1 .left, c .before .pre .last, c .before .pre .column)
 
-mul-sum-after : tie.Need-mul-sum-after Inv-loop μ-loop
-mul-sum-after c = omega (arith, inside c)
+mul-add-from-2 : tie.Need-mul-add-from-2
+mul-add-from-2 c = omega (arith, c .if1 .left, c .before .pre .last, c .before .pre .column)
 
-element-copy-out-sum-after : tie.Need-element-copy-out-sum-after Inv-loop μ-loop
-element-copy-out-sum-after c = inside c
+element-copy-out-add-from : tie.Need-element-copy-out-add-from
+element-copy-out-add-from c = omega (arith, c .if1 .left, c .before .pre .last, c .before .pre .column)
 
-mul-sum-after-2 : tie.Need-mul-sum-after-2 Inv-loop μ-loop
-mul-sum-after-2 c = omega (arith, inside (c .before), c .before .before .pre .column)
-
-add-sum-after : tie.Need-add-sum-after Inv-loop μ-loop
-add-sum-after c = omega (arith, inside (c .before), c .before .before .pre .column)
-
-mul-sum-after-3 : tie.Need-mul-sum-after-3 Inv-loop μ-loop
-mul-sum-after-3 c = omega (arith, inside (c .before), c .before .before .pre .column)
-
-element-copy-out-sum-after-2 : tie.Need-element-copy-out-sum-after-2 Inv-loop μ-loop
-element-copy-out-sum-after-2 c = omega (arith, inside (c .before), c .before .before .pre .column)
-
-sum-after-requires : tie.Need-sum-after-requires Inv-loop μ-loop
-sum-after-requires c κs =
+add-from-requires : tie.Need-add-from-requires
+add-from-requires c κs =
     let b = c .before .before .before in
-    may-add-row (b .pre) (b .args .s .now) (b .args .lo) (omega arith) (c .before .before .if1 .left) (none b)
+    (rw (digit-kept (b .args .d) (b .pre .digit)) (b .pre), λ l. i64-kept _ (c .before .add-from-arg .given))
 
-mul-t20 : tie.Need-mul-t20 Inv-loop μ-loop
-mul-t20 c = omega (arith, inside (c .before .before .before))
-
-element-set-from-s : tie.Need-element-set-from-s Inv-loop μ-loop
-element-set-from-s c = omega (arith, inside (c .before .before .before))
-
-add-i : tie.Need-add-i Inv-loop μ-loop
-add-i c = omega (arith, inside (c .before .before .before))
-
--- row lo is
-abbrev start : tie.After-sum-after Inv-loop μ-loop → tie.Start Inv-loop μ-loop
-start c = c .before .before .before .before
-
-first : (c : tie.After-sum-after Inv-loop μ-loop) → let a = start c .args in
-    set (a .s .now) (a .lo) (toZ w64 (ofZ w64 (c .sum-after .result)))
-    ≡ stores (a .s .now) (λ t. a .lo + t) (column-added (a .g .now) (a .j) (a .lo) (a .d) (a .s .now)) (a .lo + 1 - a .lo)
-first c =
-    let b = start c in
-    row-added (b .pre) (b .args .s .now) (b .args .lo) (omega arith) (c .before .before .before .if1 .left) (none b) _ (c .sum-after .ensures)
-
-loop-holds : tie.Need-loop-holds Inv-loop μ-loop
-loop-holds c =
-    let a = start c .args in
-    let b = a .lo + 1 in
-    let n : b ≤ b = omega arith in
-    (n, omega (arith, c .before .before .before .if1 .left), no-row-added (a .g .now) _ (a .j) b b _ n)
-
--- ---- the rows after it
-
-abbrev begun : tie.In-loop Inv-loop μ-loop → tie.After-sum-after Inv-loop μ-loop
-begun i = i .before .before
-
--- what stands in `s` when the loop begins
-abbrev entered : tie.After-sum-after Inv-loop μ-loop → List ℤ
-entered c = set (start c .args .s .now) (start c .args .lo) (toZ w64 (ofZ w64 (c .sum-after .result)))
-
-rest : (c : tie.After-sum-after Inv-loop μ-loop) → let a = start c .args in MayAddColumn (a .g .now) (a .j) (a .lo + 1) (a .hi) (a .d) (entered c)
-rest c =
-    let b = start c in
-    may-add-rest (b .pre) (entered c) (b .args .lo + 1) (omega arith) (omega (arith, c .before .before .before .if1 .left)) (first c)
-
-so-far : (i : tie.In-loop Inv-loop μ-loop) → let c = begun i in let a = start c .args in
-    i .before .loop .s ≡ stores (entered c) (λ t. a .lo + 1 + t) (column-added (a .g .now) (a .j) (a .lo + 1) (a .d) (entered c)) (i .before .loop .i - (a .lo + 1))
-so-far i = rw (digit-kept (start (begun i) .args .d) (start (begun i) .pre .digit)) at (i .before .loop .inv .2)
-
-below : (i : tie.In-loop Inv-loop μ-loop) → i .before .loop .i < 16
-below i = omega (arith, i .loop-test .taken, start (begun i) .pre .last)
-
-mul-sum-after-4 : tie.Need-mul-sum-after-4 Inv-loop μ-loop
-mul-sum-after-4 c = omega (arith, below c)
-
-element-copy-out-sum-after-3 : tie.Need-element-copy-out-sum-after-3 Inv-loop μ-loop
-element-copy-out-sum-after-3 c = below c
-
-mul-sum-after-5 : tie.Need-mul-sum-after-5 Inv-loop μ-loop
-mul-sum-after-5 c = omega (arith, below (c .before), start (begun (c .before)) .pre .column)
-
-add-sum-after-2 : tie.Need-add-sum-after-2 Inv-loop μ-loop
-add-sum-after-2 c = omega (arith, below (c .before), start (begun (c .before)) .pre .column)
-
-mul-sum-after-6 : tie.Need-mul-sum-after-6 Inv-loop μ-loop
-mul-sum-after-6 c = omega (arith, below (c .before), start (begun (c .before)) .pre .column)
-
-element-copy-out-sum-after-4 : tie.Need-element-copy-out-sum-after-4 Inv-loop μ-loop
-element-copy-out-sum-after-4 c = omega (arith, below (c .before), start (begun (c .before)) .pre .column)
-
-sum-after-requires-2 : tie.Need-sum-after-requires-2 Inv-loop μ-loop
-sum-after-requires-2 c κs =
-    let i = c .before .before in
-    may-add-row (rest (begun i)) (i .before .loop .s) (i .before .loop .i) (i .before .loop .inv .0) (i .loop-test .taken) (so-far i)
-
-mul-t35 : tie.Need-mul-t35 Inv-loop μ-loop
-mul-t35 c = omega (arith, below (c .before .before .before))
-
-element-set-from-s-2 : tie.Need-element-set-from-s-2 Inv-loop μ-loop
-element-set-from-s-2 c = omega (arith, below (c .before .before .before))
-
-add-i-2 : tie.Need-add-i-2 Inv-loop μ-loop
-add-i-2 c = omega (arith, below (c .before .before .before))
-
-loop-less : tie.Need-loop-less Inv-loop μ-loop
-loop-less c = omega arith
-
-loop-again : tie.Need-loop-again Inv-loop μ-loop
-loop-again c =
-    let i = c .before .before .before in
-    let d = start (begun i) in
-    let r = row-added (rest (begun i)) (i .before .loop .s) (i .before .loop .i) (i .before .loop .inv .0) (i .loop-test .taken) (so-far i) _ (c .sum-after2 .ensures) in
-    (omega (arith, i .before .loop .inv .0), omega (arith, i .loop-test .taken), rw (digit-kept (d .args .d) (d .pre .digit)) r)
-
-returns-2 : tie.Need-returns-2 Inv-loop μ-loop
-returns-2 c =
-    let b = c .before .before in
-    let l = c .before .loop in
-    let a = start b in
-    let e : l .i ≡ a .args .hi = omega (arith, l .inv .1, c .loop-test .left) in
-    let k = rw (digit-kept (a .args .d) (a .pre .digit)) at (l .inv .2) in
-    rows-together (a .pre) (entered b) (a .args .lo + 1) (omega arith) (omega (arith, b .before .before .before .if1 .left)) (first b) (rw e at k)
+returns-2 : tie.Need-returns-2
+returns-2 c = let b = c .before .before .before .before in rw (digit-kept (b .args .d) (b .pre .digit)) at (c .add-from .ensures)
 
 pub add-column-spec : {M : Type 1} → statement M
 add-column-spec =
     tie.close
     (tie.spec
-    Inv-loop
-    μ-loop
     returns
-    mul-sum-after
-    element-copy-out-sum-after
-    mul-sum-after-2
-    add-sum-after
-    mul-sum-after-3
-    element-copy-out-sum-after-2
-    sum-after-requires
-    mul-t20
-    element-set-from-s
-    add-i
-    loop-holds
-    mul-sum-after-4
-    element-copy-out-sum-after-3
-    mul-sum-after-5
-    add-sum-after-2
-    mul-sum-after-6
-    element-copy-out-sum-after-4
-    sum-after-requires-2
-    mul-t35
-    element-set-from-s-2
-    add-i-2
-    loop-less
-    loop-again
+    mul-add-from
+    add-add-from
+    mul-add-from-2
+    element-copy-out-add-from
+    add-from-requires
     returns-2)

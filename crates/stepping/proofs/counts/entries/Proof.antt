@@ -8,13 +8,13 @@ use Rattle.stepping.proofs.counts.entries.Statement.{statement}
 use Rattle.stepping.proofs.counts.entries.Tie as tie
 
 abbrev Inv-loop : tie.InvT-loop
-Inv-loop g starts ends n e₀ j₀ e j = (j ≤ n) × Found (λ i x. x ≡ column-entries n g i) e j
+Inv-loop g starts ends n e₀ j₀ e j = (j ≤ n) × Found 0 (λ i x. x ≡ column-entries n g i) e j
 
 abbrev μ-loop : tie.MeasureT-loop
 μ-loop g starts ends n e₀ j₀ e j = n - j
 
 loop-holds : tie.Need-loop-holds Inv-loop μ-loop
-loop-holds c = (omega arith, found-none _ _ (c .pre .3))
+loop-holds c = (omega arith, found-none _ _ _ (c .pre .3))
 
 mul-column-entries : tie.Need-mul-column-entries Inv-loop μ-loop
 mul-column-entries c = omega arith

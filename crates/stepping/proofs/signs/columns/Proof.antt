@@ -10,13 +10,13 @@ use Rattle.stepping.proofs.signs.columns.Statement.{statement}
 use Rattle.stepping.proofs.signs.columns.Tie as tie
 
 abbrev Inv-loop : tie.InvT-loop
-Inv-loop g n entries₀ t₀ j₀ entries t j = (j ≤ n) × Tabulated n g t (16 * j) × Found (λ i x. x ≡ column-entries n g i) entries j
+Inv-loop g n entries₀ t₀ j₀ entries t j = (j ≤ n) × Tabulated n g t (16 * j) × Found 0 (λ i x. x ≡ column-entries n g i) entries j
 
 abbrev μ-loop : tie.MeasureT-loop
 μ-loop g n entries₀ t₀ j₀ entries t j = n - j
 
 loop-holds : tie.Need-loop-holds Inv-loop μ-loop
-loop-holds c = (omega arith, tabulated-none _ _, found-none _ _ (c .pre .2))
+loop-holds c = (omega arith, tabulated-none _ _, found-none _ _ _ (c .pre .2))
 
 place-column-requires : tie.Need-place-column-requires Inv-loop μ-loop
 place-column-requires c κs =

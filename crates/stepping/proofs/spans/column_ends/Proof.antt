@@ -7,13 +7,13 @@ use Rattle.stepping.proofs.spans.column_ends.Statement.{statement}
 use Rattle.stepping.proofs.spans.column_ends.Tie as tie
 
 abbrev Inv-loop : tie.InvT-loop
-Inv-loop g n hi₀ j₀ hi j = (j ≤ n) × Found (End n g) hi j
+Inv-loop g n hi₀ j₀ hi j = (j ≤ n) × Found 0 (End n g) hi j
 
 abbrev μ-loop : tie.MeasureT-loop
 μ-loop g n hi₀ j₀ hi j = n - j
 
 loop-holds : tie.Need-loop-holds Inv-loop μ-loop
-loop-holds c = (omega arith, found-none _ _ (c .pre .1))
+loop-holds c = (omega arith, found-none _ _ _ (c .pre .1))
 
 column-end-requires : tie.Need-column-end-requires Inv-loop μ-loop
 column-end-requires c κs = (omega arith, omega arith)

@@ -7,13 +7,13 @@ use Rattle.stepping.proofs.spans.column_starts.Statement.{statement}
 use Rattle.stepping.proofs.spans.column_starts.Tie as tie
 
 abbrev Inv-loop : tie.InvT-loop
-Inv-loop g n lo₀ j₀ lo j = (j ≤ n) × Found (Start n g) lo j
+Inv-loop g n lo₀ j₀ lo j = (j ≤ n) × Found 0 (Start n g) lo j
 
 abbrev μ-loop : tie.MeasureT-loop
 μ-loop g n lo₀ j₀ lo j = n - j
 
 loop-holds : tie.Need-loop-holds Inv-loop μ-loop
-loop-holds c = (omega arith, found-none _ _ (c .pre .1))
+loop-holds c = (omega arith, found-none _ _ _ (c .pre .1))
 
 column-start-requires : tie.Need-column-start-requires Inv-loop μ-loop
 column-start-requires c κs = (omega arith, omega arith)
