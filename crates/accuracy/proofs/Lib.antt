@@ -1,16 +1,11 @@
 pub mod Runs
 pub mod Demand3
-pub mod Promised
-pub mod Parts
-pub mod Performed
 pub mod ExampleA
 pub mod ExampleDigits
 pub mod ExampleNear
 pub mod ExampleReadings
 pub mod ExampleIdentity
-pub mod ExamplePromise
 pub mod Examples
 pub mod ExampleE
 pub mod ExampleAdditions
 pub mod ExampleHalf
-pub mod ExamplePerform

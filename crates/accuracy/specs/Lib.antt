@@ -1,3 +1,1 @@
 pub mod Accuracy
-pub mod Promise
-pub mod Perform

@@ -21,9 +21,9 @@
 // evaluate     loads a frame, advances by each budget of a list and puts the readings into a lent list
 // perform      loads a frame and makes a list of calls, advances and readings in any order
 // print_frame  puts the text of a frame, accepted or refused, into a lent buffer
-pub use accuracy::Evaluated;
-pub use accuracy::evaluate;
-pub use accuracy::perform;
+pub use calls::Evaluated;
+pub use calls::evaluate;
+pub use calls::perform;
 pub use evaluator::Advanced;
 pub use evaluator::Loaded;
 pub use evaluator::advance;

@@ -10,7 +10,8 @@ use Rattle.state.specs.declared.State.{State}
 use Rattle.evaluator.specs.Evaluator.{loaded, advanced}
 use Rattle.running_sums.specs.{RunningSums.sums-written, RunningSums.sums-list, declared.SumsWritten.SumsWritten}
 use Rattle.trace.specs.{Trace.digit-list, Trace.trace-checks, Trace.trace-refusal, Trace.trace-record, Trace.record-answer, Trace.trace-writer-answer, Trace.trace-writer-buffer, declared.Record.Record, declared.TraceWritten.TraceWritten}
-use Rattle.accuracy.specs.{Accuracy.Call, Accuracy.additions-made, Promise.Promise, declared.Evaluated.Evaluated}
+use Rattle.accuracy.specs.Accuracy.{Call, additions-made}
+use Rattle.calls.specs.{Promise.Promise, declared.Evaluated.Evaluated}
 
 -- ---- answers: a refusal, a row and a count in one number, of a loaded frame its scale too, and of an
 -- evaluation its additions

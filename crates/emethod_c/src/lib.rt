@@ -76,7 +76,7 @@ pub extern "C" fn em_evaluate(frame: &[u8], budget: u64, readings: &mut [i64]) -
     ensures { λ r. ⌜ Evaluates (now (frame .entry)) budget (now (readings .entry)) r (now (readings .exit)) ⌝ }
 {
     let budgets = [budget; 1];
-    let e = accuracy::evaluate(frame, &budgets, readings);
+    let e = calls::evaluate(frame, &budgets, readings);
     counted_answer(e.refusal, e.row, e.made, e.additions, e.scale)
 }
 

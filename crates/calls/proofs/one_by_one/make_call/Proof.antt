@@ -4,9 +4,9 @@ use borrow.Author.Needs.{needs}
 use lib.ListN.{length}
 use lib.Seq.{length-take-le}
 use mathlib.Core.Path.{sym}
-use Rattle.accuracy.proofs.Parts.{room-within, call-advance, call-readings}
-use Rattle.accuracy.proofs.calls.make_call.Statement.{statement}
-use Rattle.accuracy.proofs.calls.make_call.Tie as tie
+use Rattle.calls.proofs.Parts.{room-within, call-advance, call-readings}
+use Rattle.calls.proofs.one_by_one.make_call.Statement.{statement}
+use Rattle.calls.proofs.one_by_one.make_call.Tie as tie
 
 within : (c : tie.After-smaller) → c .smaller .result ≤ length (c .before .before .args .list .now)
 within c = let a = c .before .before .args in room-within (a .value) (c .smaller .result) (a .list .now) (c .smaller .ensures)

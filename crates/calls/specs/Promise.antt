@@ -7,7 +7,8 @@ use Rattle.integers.specs.Flat.{at}
 use Rattle.frame.specs.Frame.{frame-refusal, frame-row, frame-numbers}
 use Rattle.header.specs.Header.{header-of}
 use Rattle.evaluator.specs.Evaluator.{readings-refusal, readings-list}
-use Rattle.accuracy.specs.{Accuracy.order, Accuracy.last-step-of, Accuracy.DigitCount, Accuracy.after, Accuracy.additions-made, Accuracy.Accurate, Accuracy.readings, Accuracy.budgets, Accuracy.advances, declared.Evaluated.Evaluated}
+use Rattle.accuracy.specs.Accuracy.{order, last-step-of, DigitCount, after, additions-made, Accurate, readings, budgets, advances}
+use Rattle.calls.specs.declared.Evaluated.{Evaluated}
 
 -- the answer to a refused frame: its number and row, no step made and no addition
 abbrev pub refused-evaluated : List ℕ → Evaluated

@@ -3,11 +3,11 @@ use mathlib.Core.Path.{_≡_}
 use Rattle.evaluator.specs.Evaluator.{smaller}
 use Rattle.state.specs.State.{state-last}
 use Rattle.job.proofs.Limits.{steps-small, scale-small}
 use Rattle.accuracy.specs.Accuracy.{budgets, advances}
-use Rattle.accuracy.proofs.Promised.{promise-refused, job-limits, job-last-small, steppable, rows-readable, promise-short, promise-done}
+use Rattle.calls.proofs.Promised.{promise-refused, job-limits, job-last-small, steppable, rows-readable, promise-short, promise-done}
 use borrow.Author.Needs.{needs}
-use Rattle.accuracy.proofs.evaluate.Statement.{statement}
-use Rattle.accuracy.proofs.evaluate.Tie as tie
+use Rattle.calls.proofs.evaluate.Statement.{statement}
+use Rattle.calls.proofs.evaluate.Tie as tie
 
 load-requires : tie.Need-load-requires
 load-requires c κs = search needs

@@ -16,11 +16,11 @@ use Rattle.stepping.specs.Steps.{steps}
 use Rattle.evaluator.specs.declared.Loaded.{Loaded}
 use Rattle.evaluator.proofs.Kept.{fresh-start, loaded-passes}
 use Rattle.evaluator.proofs.Theorems.{accepted-load}
 use Rattle.accuracy.specs.Accuracy.{order, after, Call, readings}
-use Rattle.accuracy.specs.Perform.{calls-of, room-of-all, list-after, Performed}
-use Rattle.accuracy.specs.declared.calls.AllMade.{AllMade}
+use Rattle.calls.specs.Perform.{calls-of, room-of-all, list-after, Performed}
+use Rattle.calls.specs.declared.one_by_one.AllMade.{AllMade}
 use Rattle.accuracy.proofs.Demand3.{accurate}
-use Rattle.accuracy.proofs.Parts.{run-header, run-passes, readings-taken, calls-made, at-part, kept-word}
+use Rattle.calls.proofs.Parts.{run-header, run-passes, readings-taken, calls-made, at-part, kept-word}
 
 -- ---- an accepted frame: its state after any calls
 

@@ -3,9 +3,9 @@
 use Prim.Native.Nat.{_-_}
 use native.Mathlib.Omega.{arith}
 use lib.ListN.{length}
-use Rattle.accuracy.proofs.Parts.{Turn, turn-first, turn-next, turn-counts, turn-last}
-use Rattle.accuracy.proofs.calls.make_calls.Statement.{statement}
-use Rattle.accuracy.proofs.calls.make_calls.Tie as tie
+use Rattle.calls.proofs.Parts.{Turn, turn-first, turn-next, turn-counts, turn-last}
+use Rattle.calls.proofs.one_by_one.make_calls.Statement.{statement}
+use Rattle.calls.proofs.one_by_one.make_calls.Tie as tie
 
 abbrev Inv-loop : tie.InvT-loop
 Inv-loop words list₀ t₀ additions₀ place₀ i₀ list t additions place i = Turn t₀ words list₀ list t additions place i

@@ -19,12 +19,12 @@ use Rattle.recurrence.specs.Recurrence.{digit, residual, shifted, next-digit, n
 use Rattle.state.specs.State.{beyond, fresh, breaks-limit}
 use Rattle.evaluator.specs.Evaluator.{loaded, advanced, advance-checks, steps-made, readings-checks, readings-list}
 use Rattle.scale.specs.Scale.{every}
 use Rattle.accuracy.specs.Accuracy as calls
 use Rattle.accuracy.specs.Accuracy.{Call, advance, readings, budgets}
-use Rattle.accuracy.specs.Perform.{room-of, calls-of, room-of-all, parts-after, Untouched, Performed}
-use Rattle.accuracy.specs.declared.Evaluated.{Evaluated}
+use Rattle.calls.specs.Perform.{room-of, calls-of, room-of-all, parts-after, Untouched, Performed}
+use Rattle.calls.specs.declared.Evaluated.{Evaluated}
 use Rattle.evaluator.proofs.ExamplePastOrder.{frame-A}
 use Rattle.accuracy.proofs.ExampleA.{accepted-A, frame-D}
 
 -- ---- A: advances by 2, 0 and 9, and readings of no word, of three and of two; by 0 and of no word are
 -- refused

@@ -12,11 +12,11 @@ use Rattle.system.specs.Rows.{first-row-from}
 use Rattle.system.specs.System.{curve-entry, matrix, right-side}
 use Rattle.frame.specs.Frame.{frame-checks}
 use Rattle.scale.specs.Scale.{every}
 use Rattle.accuracy.specs.Accuracy.{advance, readings, budgets, after}
-use Rattle.accuracy.specs.Promise.{Promise}
-use Rattle.accuracy.specs.declared.Evaluated.{Evaluated}
+use Rattle.calls.specs.Promise.{Promise}
+use Rattle.calls.specs.declared.Evaluated.{Evaluated}
 use Rattle.evaluator.proofs.ExamplePastOrder.{frame-A}
 use Rattle.accuracy.proofs.ExampleA.{calls-A, accepted-A, values-A, exact-A, readings-A, frame-D}
 
 -- ---- D: x 5 in A
 

@@ -1,8 +1,8 @@
 -- The answer and the list are those of the calls, of which demand 3 holds.
 use borrow.Author.Needs.{needs}
-use Rattle.accuracy.proofs.Performed.{performed-refused, performed-passes, performed-accepted}
-use Rattle.accuracy.proofs.calls.perform.Statement.{statement}
-use Rattle.accuracy.proofs.calls.perform.Tie as tie
+use Rattle.calls.proofs.Performed.{performed-refused, performed-passes, performed-accepted}
+use Rattle.calls.proofs.one_by_one.perform.Statement.{statement}
+use Rattle.calls.proofs.one_by_one.perform.Tie as tie
 
 load-requires : tie.Need-load-requires
 load-requires c κs = search needs

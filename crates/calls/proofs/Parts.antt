@@ -26,11 +26,11 @@ use Rattle.stepping.proofs.Steps.{steps-header}
 use Rattle.stepping.proofs.Additions.{additions-small}
 use Rattle.evaluator.proofs.Kept.{passes-exactly}
 use Rattle.evaluator.proofs.Theorems.{made-grows, readings-decided, refused-readings, readings-past, advanced-passes}
 use Rattle.accuracy.specs.Accuracy.{Call, advance, readings, state-after, run, call-additions, calls-additions}
-use Rattle.accuracy.specs.Perform.{call-of, room-of, calls-of, room-of-all, part-after, parts-after, list-after, Untouched}
-use Rattle.accuracy.specs.declared.calls.Made.{Made}
-use Rattle.accuracy.specs.declared.calls.AllMade.{AllMade}
+use Rattle.calls.specs.Perform.{call-of, room-of, calls-of, room-of-all, part-after, parts-after, list-after, Untouched}
+use Rattle.calls.specs.declared.one_by_one.Made.{Made}
+use Rattle.calls.specs.declared.one_by_one.AllMade.{AllMade}
 use Rattle.accuracy.proofs.Runs.{smaller-left, smaller-right}
 
 -- ---- the states on the way
 

@@ -33,11 +33,11 @@ use Rattle.stepping.proofs.Steps.{steps-header, steps-scale, steps-k}
 use Rattle.evaluator.proofs.Horner.{may-read-rows}
 use Rattle.stepping.proofs.Stepping.{fresh-whole}
 use Rattle.evaluator.proofs.Theorems.{accepted-load}
 use Rattle.accuracy.specs.Accuracy.{order, radix-of, last-step-of, true-digit, DigitCount, after, run, budgets, calls-additions, advances, readings}
-use Rattle.accuracy.specs.Promise.{Promise}
+use Rattle.calls.specs.Promise.{Promise}
 use Rattle.accuracy.proofs.Demand3.{counted, accurate}
-use Rattle.accuracy.proofs.Performed.{taken}
+use Rattle.calls.proofs.Performed.{taken}
 use Rattle.accuracy.proofs.Runs.{smaller-left, run-all, counted-all, allowed-most}
 
 -- a state's digits and readings, by its header, its steps and its digits
 readable-of : (t : State) {h : Header} {k : ℕ} {ds : List ℤ} → t .header ≡ h → t .k ≡ k → ds ≡ t .digits → PassesLimits t → MayReadRows h k ds

@@ -1,5 +1,5 @@
 -- Lists of calls as words, two words a call, with one list lent for all the readings (document 01, "Calls"):
--- each readings call gets the next part of it. `Performed` is what `perform` of src/calls.rt ensures.
+-- each readings call gets the next part of it. `Performed` is what `perform` of src/one_by_one.rt ensures.
 use mathlib.Core.{Path._≡_, List.List, List.[], List._∷_, List._++_}
 use Prim.Native.Nat.{ℕ, zero, suc, _+_, _<_, _≤_}
 use lib.{IntN.ℤ, ListN.length, ListN.take, ListN.drop}
@@ -8,7 +8,8 @@ use Rattle.frame.specs.Frame.{frame-refusal}
 use Rattle.recurrence.specs.Recurrence.{reading}
 use Rattle.state.specs.declared.State.{State}
 use Rattle.evaluator.specs.Evaluator.{loaded, smaller, readings-list}
-use Rattle.accuracy.specs.{Accuracy.order, Accuracy.radix-of, Accuracy.last-step-of, Accuracy.true-digit, Accuracy.after, Accuracy.additions-made, Accuracy.Accurate, Accuracy.Call, Accuracy.advance, Accuracy.readings, Accuracy.state-after, Accuracy.budgets, declared.Evaluated.Evaluated, Promise.refused-evaluated}
+use Rattle.accuracy.specs.Accuracy.{order, radix-of, last-step-of, true-digit, after, additions-made, Accurate, Call, advance, readings, state-after, budgets}
+use Rattle.calls.specs.{declared.Evaluated.Evaluated, Promise.refused-evaluated}
 
 -- ---- the calls that words name; `given` is what is left of the list lent
 

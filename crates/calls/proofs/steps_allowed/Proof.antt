@@ -6,10 +6,10 @@ use native.Mathlib.Omega.{arith}
 use lib.ListN.{length, take}
 use lib.Seq.{take-all}
 use Rattle.evaluator.specs.Evaluator.{smaller}
 use Rattle.accuracy.specs.Accuracy.{budgets, advances}
 use Rattle.accuracy.proofs.Runs.{allowed-none, allowed-most, allowed-more}
-use Rattle.accuracy.proofs.steps_allowed.Statement.{statement}
-use Rattle.accuracy.proofs.steps_allowed.Tie as tie
+use Rattle.calls.proofs.steps_allowed.Statement.{statement}
+use Rattle.calls.proofs.steps_allowed.Tie as tie
 
 abbrev Inv-loop : tie.InvT-loop
 Inv-loop list last made₀ i₀ made i = (i ≤ length list) × (made ≤ last) × (made ≡ smaller last (budgets (advances (take i list))))

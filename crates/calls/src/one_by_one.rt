@@ -6,8 +6,8 @@ ghost use mathlib.Core.List.{_++_};
 ghost use lib.ListN.{drop};
 ghost use Rattle.job.specs.Refusal.{first-refusal};
 ghost use Rattle.state.specs.State.{state-checks};
 ghost use Rattle.accuracy.specs.Accuracy.{state-after, run, call-additions, calls-additions};
-ghost use Rattle.accuracy.specs.Perform.{call-of, room-of, calls-of, part-after, list-after, Performed};
+ghost use Rattle.calls.specs.Perform.{call-of, room-of, calls-of, part-after, list-after, Performed};
 use crate::Evaluated;
 use state::State;
 
