@@ -10,6 +10,7 @@ pub mod Product
 pub mod Power
 pub mod Flat
 pub mod Stores
+pub mod Filled
 pub mod Machine
 pub mod Below
 pub mod Guide

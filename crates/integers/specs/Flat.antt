@@ -29,3 +29,7 @@ flat-matrix n G = list-from 0 256 (λ k. cond (ltb (k / 16) n && ltb (k % 16) n)
 unfoldable pub stores : (g : List ℤ) (place : ℕ → ℕ) (value : ℕ → ℤ) (k : ℕ) → List ℤ
 stores g place value zero = g
 stores g place value (suc k) = set (stores g place value k) (place k) (value k)
+
+-- v with f's values in the rows below n
+abbrev pub filled : (ℕ → ℤ) → List ℤ → ℕ → List ℤ
+filled f v n = stores v (λ i. i) f n

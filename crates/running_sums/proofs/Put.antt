@@ -16,9 +16,9 @@ use Rattle.integers.proofs.Flat.{length-list-from}
 use Rattle.integers.proofs.Product.{dot-zero}
 use Rattle.column.specs.Column.{skipped, column-added, MayAddColumn}
 use Rattle.state.proofs.Lists.{list-from-alike}
-use Rattle.stepping.specs.Inner.{Start, End}
-use Rattle.stepping.proofs.ColumnSum.{SoFar, may-add-next, sums-more}
-use Rattle.stepping.proofs.Stepped.{at-zeros}
+use Rattle.spans.specs.Inner.{Start, End}
+use Rattle.spans.proofs.ColumnSum.{SoFar, may-add-next, sums-more}
+use Rattle.integers.proofs.Filled.{at-zeros}
 use Rattle.running_sums.specs.RunningSums.{running-sum, words-below, word-count-below}
 use Rattle.running_sums.specs.Inner.{MayPut, MayPutColumn}
 use Rattle.running_sums.proofs.Columns.{skipped-adds-none, no-column, column-not-counted, no-words, column-not-listed, column-listed, words-grow, words-most, words-counted, length-words}

@@ -4,7 +4,7 @@ use mathlib.Core.List.{List}
 use Prim.Native.Nat.{ℕ, _+_, _^_, _≤_}
 use lib.IntN.{ℤ}
 use Rattle.integers.specs.Flat.{at}
-use Rattle.stepping.specs.Inner.{MaySumRows}
+use Rattle.spans.specs.Inner.{MaySumRows}
 use Rattle.running_sums.specs.RunningSums.{word-count-below}
 
 -- a column's words may be put from the word `to` on into a list of `room` words

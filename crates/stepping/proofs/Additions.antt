@@ -11,7 +11,7 @@ use Rattle.additions.specs.Additions.{step-additions, additions}
 use Rattle.additions.proofs.Laws.{step-additions-ext, step-additions-most}
 use Rattle.state.specs.State.{digits-of, all-steps}
 use Rattle.state.specs.declared.State.{State}
-use Rattle.stepping.specs.Steps.{chosen-digits, digits-stored, one-step, steps, next-additions, steps-additions, job-digit, Follows}
+use Rattle.stepping.specs.Steps.{chosen-digits, one-step, steps, next-additions, steps-additions, job-digit, Follows}
 use Rattle.stepping.proofs.Steps.{steps-header, steps-scale, steps-k, steps-add, stored-other}
 use Rattle.stepping.proofs.Stepping.{steps-g}
 use Rattle.stepping.proofs.Follow.{follows-steps}

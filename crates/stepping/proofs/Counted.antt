@@ -16,10 +16,10 @@ use Rattle.additions.proofs.Laws.{nonzero-most, by-columns, step-additions-ext}
 use Rattle.state.specs.State.{digits-of}
 use Rattle.state.specs.declared.State.{State}
 use Rattle.stepping.specs.Steps.{last-digits, steps, next-additions, steps-additions}
-use Rattle.stepping.specs.Inner.{Counts, MayCount, MayMultiply, column-entries}
+use Rattle.counts.specs.Inner.{Counts, MayCount, MayMultiply, column-entries}
 use Rattle.stepping.proofs.Steps.{steps-header, steps-k}
 use Rattle.stepping.proofs.Stepping.{steps-g}
-use Rattle.stepping.proofs.Counting.{entries-few}
+use Rattle.counts.proofs.Counting.{entries-few}
 
 -- 1 where the digit of column i is other than 0 after t steps
 abbrev pub adds : (s : State) (i t : ℕ) → ℕ

@@ -3,11 +3,10 @@
 use mathlib.Core.Path.{_≡_, refl, sym, _∙_}
 use mathlib.Core.Bool.{Bool, true, false, cond}
 use mathlib.Core.List.{List}
-use Prim.Native.Nat.{ℕ, zero, suc, _+_, _*_, _-_}
-use native.Mathlib.Omega.{arith}
+use Prim.Native.Nat.{ℕ}
 use lib.IntN.{ℤ, pos}
 use lib.ListN.{replicate}
-use Rattle.integers.specs.Flat.{at, list-from, flat-vector}
+use Rattle.integers.specs.Flat.{list-from, flat-vector}
 use Rattle.state.specs.State.{digits-of}
 use Rattle.stepping.specs.Inner.{FirstZero}
 
@@ -22,8 +21,3 @@ first-digits ds n k e = rw e (simp zero-either-way)
 
 pub first-zero : (ds : List ℤ) (n k : ℕ) {d : List ℤ} → d ≡ flat-vector n (digits-of ds k) → FirstZero k d
 first-zero ds n k e z = e ∙ sym (first-digits ds n k z)
-
--- after it
-pub step-digit : (ds : List ℤ) (k i : ℕ) → (k ≡ 0 → ⊥) → at ds (16 * (k - 1) + i) ≡ digits-of ds k i
-step-digit ds zero i h = absurd (h refl)
-step-digit ds (suc k) i h = let e : suc k - 1 ≡ k = omega arith in rw e

@@ -1,12 +1,4 @@
-pub mod Residual
-pub mod Chosen
-pub mod Shifted
-pub mod ColumnSpan
-pub mod ColumnSum
-pub mod Table
-pub mod Listing
 pub mod Digits
-pub mod Counting
 pub mod Limits
 pub mod Stepped
 pub mod Steps

@@ -15,9 +15,11 @@ use Rattle.job.specs.declared.Header.{Header}
 use Rattle.job.specs.Header.{Limits, digit-bits, radix}
 use Rattle.recurrence.specs.Recurrence.{shifted, LightRows, WithinBounds}
 use Rattle.recurrence.proofs.Theorems.{bound}
-use Rattle.stepping.specs.Inner.{row-dot, MayChoose, Summed, MaySumRows, MayTabulate}
+use Rattle.spans.specs.Inner.{row-dot, Summed, MaySumRows}
+use Rattle.choice.specs.Inner.{MayChoose}
+use Rattle.signs.specs.Inner.{MayTabulate}
 use Rattle.stepping.specs.Steps.{finer}
-use Rattle.stepping.proofs.Shifted.{shifted-together}
+use Rattle.choice.proofs.ShiftedResidual.{shifted-together}
 
 -- digits up to 1 are those of radix 2
 pub radix-two : {h : Header} → Limits h → h .p ≡ 1 → 2 ≡ radix (h .code)

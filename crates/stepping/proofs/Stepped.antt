@@ -1,13 +1,12 @@
 -- One step on lists: which row holds what, and that the limits hold again.
--- Cited by the proofs of the functions that fill an array, and by the crates that make several steps.
-use mathlib.Core.Path.{_≡_, refl, sym, subst, _∙_}
+-- Cited by the proofs of the functions that make steps, and by the crates that make several.
+use mathlib.Core.Path.{_≡_, refl, sym, _∙_}
 use mathlib.Core.List.{List}
 use mathlib.Core.Logic.{_⊎_, inl, inr}
-use Prim.Native.Nat.{ℕ, _+_, _*_, _<_, _≤_}
-use native.Mathlib.Numerals.{add-one}
+use Prim.Native.Nat.{ℕ, _*_, _<_, _≤_}
 use native.Mathlib.Omega.{arith}
 use lib.IntN.{ℤ, pos, natAbs}
-use lib.ListN.{length, set, replicate, getD-replicate, List·getD-eq-default}
+use lib.ListN.{length, replicate}
 use lib.Seq.{ext-getD}
 use Rattle.integers.proofs.Maximum.{le-or-lt}
 use Rattle.integers.proofs.Product.{dot-none, dot-scale}
@@ -15,50 +14,15 @@ use Rattle.recurrence.specs.Recurrence.{select, shifted, next-digit, next-resid
 use Rattle.recurrence.proofs.Selection.{select-selects}
 use Rattle.recurrence.proofs.Theorems.{bounds-kept-next}
 use Rattle.integers.specs.Flat.{at, entry}
-use Rattle.integers.proofs.Stores.{stores-zero, stores-suc, stores-ext, length-stores, stores-other, stores-at}
+use Rattle.integers.proofs.Filled.{length-filled, filled-past, filled-row, filled-each, at-zeros}
+use Rattle.integers.proofs.Stores.{stores-ext}
 use Rattle.job.specs.Rules.{bound-over, bound-under}
-use Rattle.stepping.specs.Steps.{filled, finer, stepped-digits, stepped-residuals}
-use Rattle.stepping.specs.Inner.{digit-from, residual-from, row-dot, Summed}
+use Rattle.integers.specs.Flat.{filled}
+use Rattle.stepping.specs.Steps.{finer, stepped-digits, stepped-residuals}
+use Rattle.choice.specs.Inner.{digit-from, residual-from}
+use Rattle.spans.specs.Inner.{row-dot, Summed}
 use Rattle.stepping.proofs.Limits.{KeepsLimits}
-use Rattle.stepping.proofs.Shifted.{shifted-together}
-
--- ---- a list filled in the rows below n
-
-module _ (f : ℕ → ℤ) (v : List ℤ) where
-  pub filled-zero : filled f v 0 ≡ v
-  filled-zero = stores-zero v (λ i. i) f
-
-  -- a store in the next row
-  pub filled-next : (i : ℕ) (l : List ℤ) (x : ℤ) → l ≡ filled f v i → x ≡ f i → set l i x ≡ filled f v (i + 1)
-  filled-next i l x e h = rw (add-one, e, h) (sym (stores-suc v (λ i. i) f i))
-
-  pub length-filled : (n : ℕ) → length (filled f v n) ≡ length v
-  length-filled n = length-stores v (λ i. i) f n
-
-  -- the rows from n on keep their values
-  pub filled-past : (n i : ℕ) → n ≤ i → at (filled f v n) i ≡ at v i
-  filled-past n i h = stores-other v (λ i. i) f n i (λ t l e. omega arith)
-
-  -- the rows below n hold f's values
-  pub filled-row : (n i : ℕ) → i < n → i < length v → at (filled f v n) i ≡ f i
-  filled-row n i h l = stores-at v (λ i. i) f n i h l (λ t a b e. omega arith)
-
-  -- what holds of f's values and of 0 holds of every row below n, whatever the length
-  pub filled-each : (Q : ℤ → Type 0) (n : ℕ) → Q (pos 0) → ((i : ℕ) → i < n → Q (f i)) → (i : ℕ) → i < n → Q (at (filled f v n) i)
-  filled-each Q n z h i l = by-case (le-or-lt (length v) i)
-    where
-      by-case : (length v ≤ i) ⊎ (i < length v) → Q (at (filled f v n) i)
-      by-case (inl m) = subst Q (sym (List·getD-eq-default (filled f v n) (pos 0) (omega (arith, length-filled n)))) z
-      by-case (inr m) = subst Q (sym (filled-row n i l m)) (h i l)
-
--- ---- a vector of zeros
-
-pub at-zeros : (i : ℕ) → at (replicate 16 (pos 0)) i ≡ pos 0
-at-zeros i = by-case (le-or-lt 16 i)
-  where
-    by-case : (16 ≤ i) ⊎ (i < 16) → at (replicate 16 (pos 0)) i ≡ pos 0
-    by-case (inl m) = List·getD-eq-default (replicate 16 (pos 0)) (pos 0) m
-    by-case (inr m) = getD-replicate 16 i (pos 0) (pos 0) m
+use Rattle.choice.proofs.ShiftedResidual.{shifted-together}
 
 -- ---- a step
 

@@ -11,7 +11,7 @@ use native.Mathlib.Omega.{arith}
 use borrow.Author.Tests.{le-ltb}
 use lib.Dec.{ltb}
 use lib.IntN.{ℤ, pos, natAbs}
-use lib.ListN.{length, getD, replicate, List·getD-eq-default}
+use lib.ListN.{length, getD, replicate}
 use lib.Pow.{pow-pos}
 use lib.Seq.{ext-getD}
 use Rattle.integers.specs.Flat.{at, stores, flat-vector}
@@ -23,12 +23,17 @@ use Rattle.job.specs.Header.{radix}
 use Rattle.job.proofs.Limits as limits
 use Rattle.job.specs.declared.Header.{Header}
 use Rattle.selection.specs.Selection.{selection-table}
-use Rattle.stepping.specs.Steps.{filled, last-digits, state-factor, chosen-digits, residuals-left, digits-stored, one-step, steps}
-use Rattle.stepping.specs.Inner.{digit-from, residual-from, MayChoose, row-dot, Summed, MaySumRows, FirstZero, Counts, Between, MayStepOnce, Stepped, MayStep}
-use Rattle.stepping.proofs.Limits.{KeepsLimits, radix-two, may-sum-rows, may-choose-from}
-use Rattle.stepping.proofs.Chosen.{digit-most}
+use Rattle.integers.specs.Flat.{filled}
+use Rattle.stepping.specs.Steps.{last-digits, state-factor, chosen-digits, residuals-left, digits-stored, one-step, steps}
+use Rattle.choice.specs.Inner.{digit-from, residual-from, MayChoose}
+use Rattle.spans.specs.Inner.{row-dot, Summed, MaySumRows}
+use Rattle.stepping.specs.Inner.{FirstZero, Between, MayStepOnce, Stepped, MayStep}
+use Rattle.counts.specs.Inner.{Counts}
+use Rattle.stepping.proofs.Limits.{KeepsLimits, may-sum-rows, may-choose-from}
+use Rattle.choice.proofs.Chosen.{digit-most}
 use Rattle.stepping.proofs.Digits.{first-zero}
-use Rattle.stepping.proofs.Stepped.{length-stepped-digits, stepped-digit-past, filled-summed, length-filled, filled-row, filled-stepped, filled-left, keeps-limits-next}
+use Rattle.stepping.proofs.Stepped.{length-stepped-digits, stepped-digit-past, filled-summed, filled-stepped, filled-left, keeps-limits-next}
+use Rattle.integers.proofs.Filled.{length-filled, filled-row}
 use Rattle.state.specs.State.{state-unit, digits-of, PassesLimits}
 use Rattle.state.specs.Inner.{state-of}
 use Rattle.state.specs.declared.State.{State}

@@ -1,7 +1,8 @@
 // Steps of a job. A step adds, as the array does, one column after the other over all rows, each with its
 // digit of the step before, skips those whose digit is 0, and then chooses a digit in each row. A column is
-// multiplied by its digit, or in radix 2 added or taken off, and `make_steps` takes what is likely to be
-// faster. Its contract is an equality with `steps` of specs/Steps.antt, which also says what steps have to do
+// multiplied by its digit (crate spans), or in radix 2 added or taken off (signs), and `make_steps` takes
+// what is likely to be faster. The digits are chosen in the crate choice, and the additions counted in
+// counts. Its contract is an equality with `steps` of specs/Steps.antt, which also says what steps have to do
 // with the recurrence.
 ghost use mathlib.Core.Path.{_≡_};
 ghost use mathlib.Core.Bool.{true};
@@ -11,21 +12,20 @@ ghost use lib.ListN.{length, getD, replicate};
 ghost use Rattle.integers.specs.Flat.{at, flat-vector};
 ghost use Rattle.additions.specs.Additions.{nonzero};
 ghost use Rattle.selection.specs.Selection.{selection-table};
-ghost use Rattle.stepping.specs.Inner.{row-dot, MaySumRows, FirstZero, Starts, Ends, Firsts, Columns, Counts, MayCount, MayStepOnce, Stepped, MayStep};
+ghost use Rattle.spans.specs.Inner.{row-dot, MaySumRows, Starts, Ends, Firsts};
+ghost use Rattle.stepping.specs.Inner.{FirstZero, MayStepOnce, Stepped, MayStep};
+ghost use Rattle.signs.specs.Inner.{Columns};
+ghost use Rattle.counts.specs.Inner.{Counts, MayCount};
 ghost use Rattle.state.specs.State.{digits-of};
 ghost use Rattle.state.specs.Inner.{state-of};
-ghost use Rattle.stepping.specs.Steps.{filled, steps, steps-additions};
+ghost use Rattle.integers.specs.Flat.{filled};
+ghost use Rattle.stepping.specs.Steps.{steps, steps-additions};
 use job::Header;
 use job::ROWS;
 use selection::ESTIMATES;
 use signs::BOTH;
 use state::DIGITS;
 use system::ENTRIES;
-
-mod choice; // choice.rt: a digit in each row
-mod counts; // counts.rt: how many additions the steps make
-mod signs; // signs.rt: the rows' sums in radix 2, each column added or taken off
-mod spans; // spans.rt: the rows' sums, each column multiplied by its digit
 
 // The digits of step k in the rows below n: 0 before the first step and past row n. In the array of all
 // digits those of a step start 16 after those of the step before.

@@ -6,8 +6,8 @@ use native.Mathlib.Omega.{arith}
 use lib.IntN.{pos}
 use lib.ListN.{replicate}
 use Rattle.stepping.proofs.Stepped.{zeros-filled}
-use Rattle.stepping.proofs.ColumnSpan.{from-first, to-last}
-use Rattle.stepping.proofs.ColumnSum.{SoFar, sums-none, may-add-next, sums-more, sums-done}
+use Rattle.spans.proofs.ColumnSpan.{from-first, to-last}
+use Rattle.spans.proofs.ColumnSum.{SoFar, sums-none, may-add-next, sums-more, sums-done}
 use Rattle.stepping.proofs.first_sums.Statement.{statement}
 use Rattle.stepping.proofs.first_sums.Tie as tie
 

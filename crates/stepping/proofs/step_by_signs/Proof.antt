@@ -1,6 +1,6 @@
 -- The digits are chosen, stored and listed, and the columns listed are summed.
 use mathlib.Core.Path.{refl, sym}
-use Rattle.stepping.proofs.Listing.{may-add-listed, listed-summed}
+use Rattle.signs.proofs.Listing.{may-add-listed, listed-summed}
 use Rattle.stepping.proofs.Stepping.{may-choose, digits-most, new-row, new-counted, stepped}
 use Rattle.stepping.proofs.step_by_signs.Statement.{statement}
 use Rattle.stepping.proofs.step_by_signs.Tie as tie
