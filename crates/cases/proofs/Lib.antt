@@ -1,3 +1,1 @@
-pub mod Holds
-pub mod Values
 pub mod Compare

@@ -6,7 +6,7 @@ use Prim.Native.Nat.{ℕ, zero, suc, _+_, _/_, _%_, _<_, _≤_}
 use lib.{Dec.ltb, IntN.ℤ, IntN.pos, ListN.length, ListN.getD, ListN.take, ListN.drop, ListN.replicate}
 use Rattle.integers.specs.Flat.{at}
 use Rattle.frame.specs.Frame.{most-bytes}
-use Rattle.cases.specs.Table.{Case, table}
+use Rattle.case_table.specs.Table.{Case, table}
 
 abbrev pub sized : List ℤ → List ℤ
 sized words = pos (length words) ∷ words

@@ -3,7 +3,7 @@
 // are and each of them, the readings, and the trace's bytes. Before each list stands how many words it has.
 // What each case is stands in specs/Table.antt.
 ghost use mathlib.Core.Path.{_≡_};
-ghost use Rattle.cases.specs.Table.{rows-in-table};
+ghost use Rattle.case_table.specs.Table.{rows-in-table};
 ghost use Rattle.cases.specs.Words.{table-lines};
 
 // 112 lines of 15 words have room for all 1,667 words; zeros fill the last.

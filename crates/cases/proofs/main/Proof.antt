@@ -1,7 +1,7 @@
 -- The table has few rows, by its size.
 use native.Mathlib.Omega.{arith}
 use borrow.Author.Needs.{needs}
-use Rattle.cases.proofs.Holds.{table-size}
+use Rattle.case_table.proofs.Holds.{table-size}
 use Rattle.cases.proofs.main.Statement.{statement}
 use Rattle.cases.proofs.main.Tie as tie
 

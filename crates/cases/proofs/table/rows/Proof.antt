@@ -1,6 +1,6 @@
 -- The table's length is computed.
 use mathlib.Core.Path.{refl}
-use Rattle.cases.specs.Table.{table}
+use Rattle.case_table.specs.Table.{table}
 use Rattle.cases.proofs.table.rows.Statement.{statement}
 use Rattle.cases.proofs.table.rows.Tie as tie
 

@@ -1,7 +1,7 @@
 -- The words of the table are computed.
 use mathlib.Core.Path.{refl}
 use mathlib.Core.List.{flatMap}
-use Rattle.cases.specs.Table.{table}
+use Rattle.case_table.specs.Table.{table}
 use Rattle.cases.specs.Words.{table-words, table-lines, lines}
 use Rattle.cases.proofs.table.words.Statement.{statement}
 use Rattle.cases.proofs.table.words.Tie as tie

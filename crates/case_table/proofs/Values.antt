@@ -16,7 +16,7 @@ use Rattle.bitfields.specs.Layout.{field, number, bits, values-from}
 use Rattle.bitfields.specs.Twos.{decode}
 use Rattle.system.specs.System.{curve-entry, system-entry, matrix, right-side}
 use Rattle.accuracy.specs.Accuracy.{order, unit-of, G, b}
-use Rattle.cases.specs.Table.{Case, table, Exact, ValuesExact}
+use Rattle.case_table.specs.Table.{Case, table, Exact, ValuesExact}
 
 -- ---- tests over whole numbers, over the indices below n and over a list
 

@@ -13,7 +13,7 @@ use Rattle.recurrence.specs.Recurrence.{shifted, next-digit, next-residual, rea
 use Rattle.state.specs.State.{beyond, fresh, idle-state, breaks-limit}
 use Rattle.evaluator.specs.Evaluator.{loaded, advanced, advance-checks, steps-made}
 use Rattle.trace.specs.Trace.{digit-list, digit-array, state-record}
-use Rattle.cases.specs.Table.{table, outcome-of, digit-rows, TableSize, TableHolds}
+use Rattle.case_table.specs.Table.{table, outcome-of, digit-rows, TableSize, TableHolds}
 
 pub table-size : TableSize
 unfolding table
