@@ -16,6 +16,7 @@ const A_3_TRACE: [u8; 10] = [0x01, 0x10, 0x44, 0x14, 0x01, 0x08, 0x00, 0x00, 0x8
 const A_3_TEXT: &str = "0 2 1 4 2 4 0\n1 0 1\n2 1 0\n3 0 0\n4 1 0\n5 -1 0\n= 9 16\n";
 const B_3_TEXT: &str = "1 2 1 4 2 5 0\n1 1 0\n2 0 0\n3 0 -1\n4 0 1\n5 0 -1\n6 -1 0\n= 31 -6\n";
 const C_13_TEXT: &str = "2 2 1 4 1 4 0\n1 1\n2 0\n3 1\n4 0\n5 0\n= 20\n";
+const Q_TEXT: &str = "3 2 1 4 2 4 0\n1 1 1\n2 -1 0\n3 1 1\n4 -1 -1\n5 0 0\n= 10 18\n";
 const E_3_TEXT: &str = "0 2 1 4 2 4 1\n1 1 1\n2 -1 -1\n3 1 0\n4 -1 0\n5 1 0\n6 -1 0\n= 21 16\n";
 
 // Order 1 with seven fraction bits: the first w is just above -1/2, and just below 1/2.
@@ -184,6 +185,19 @@ pub fn run<S: Side>() -> Result<usize, String> {
     case("C, refused", refused(&c(12)) == (8, 1))?;
     case("C with a 13, text", frame_text::<S>(&c(13)) == C_13_TEXT)?;
 
+    // Sums of quotients: c_0, then c, a and b of each in turn. The value of the first is 9/28.
+    let quotients = |n, numbers: &[i64]| frame(3, 2, 1, n, 4, numbers);
+    let q = quotients(2, &[4, 2, 8, 2]);
+    case("quotients, frame", q == [0xC1, 0x10, 0x44, 0x10, 0x22, 0x02])?;
+    case("quotients, text", frame_text::<S>(&q) == Q_TEXT)?;
+    case("quotients, c_0 alone", loads(&quotients(1, &[8]), 0))?;
+    let heavy_sum = quotients(3, &[4, 2, 8, 2, -2, 8, 2]);
+    case("quotients, heavy sum", refused(&heavy_sum) == (8, 1))?;
+    let heavy_divisor = quotients(3, &[4, 1, 8, 2, 1, 8, -4]);
+    case("quotients, heavy b_2", refused(&heavy_divisor) == (8, 3))?;
+    let high_dividend = quotients(3, &[4, 1, 9, 2, 1, 8, 2]);
+    case("quotients, high a_1", loads(&high_dividend, 1))?;
+
     case("D", refused(&curve(5, 3)) == (8, 1))?;
     case("E, refused", refused(&curve(4, 9)) == (8, 1))?;
     let e = curve(3, 9);
@@ -287,6 +301,8 @@ pub fn run<S: Side>() -> Result<usize, String> {
     case("additions, all", additions(&A_3, 9, 2) == (0, 5, 1))?;
     case("additions, E", additions(&e, 9, 2) == (0, 6, 2))?;
     case("additions, no room", additions(&A_3, 9, 1) == (23, 0, 0))?;
+    // G of the sum of quotients has two entries, both in column 2, and the digits of row 2 are 1, 0, 1, -1, 0.
+    case("additions, quotients", additions(&q, 9, 2) == (0, 5, 6))?;
     case(
         "additions, heavy row",
         additions(&curve(5, 9), 9, 2) == (8, 0, 0),

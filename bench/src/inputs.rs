@@ -62,7 +62,8 @@ fn count(fields: &Fields) -> usize {
     match fields.kind {
         0 => 1 + fields.n,
         1 => 2 * fields.n,
-        _ => fields.n * (fields.n + 1),
+        2 => fields.n * (fields.n + 1),
+        _ => (3 * fields.n).saturating_sub(2),
     }
 }
 
@@ -72,7 +73,7 @@ pub fn random_fields(random: &mut Random) -> Fields {
     let r = 2 << code;
     let most_digits = 60 / (code + 1) - 1;
     Fields {
-        kind: random.below(3),
+        kind: random.below(4),
         code,
         p: random.between(r / 2, r - 1),
         f: random.between(4, 40),
@@ -115,6 +116,20 @@ impl Light {
                     numbers.push(if row == column { unit - g } else { -g });
                 }
                 numbers.push(right_side(random));
+            }
+            return numbers;
+        }
+        if fields.kind == 3 {
+            let weight = self.part(limit, random);
+            let coefficients = match n {
+                1 => Vec::new(),
+                _ => self.split(weight, n - 1, random),
+            };
+            numbers.push(right_side(random));
+            for c in coefficients {
+                numbers.push(c);
+                numbers.push(right_side(random));
+                numbers.push(self.part(limit, random) * random.sign());
             }
             return numbers;
         }
@@ -192,7 +207,7 @@ fn damage_field(fields: &mut Fields, wide: bool, random: &mut Random) {
     let r = 2 << fields.code.min(8);
     let most_steps = 60 / (fields.code.min(8) + 1);
     let (field, edges) = match random.below(6) {
-        0 => (&mut fields.kind, vec![0, 1, 2, 3, 3, 4]),
+        0 => (&mut fields.kind, vec![0, 1, 2, 3, 4, 4]),
         1 => (&mut fields.code, vec![0, 1, 2, 3, 4, 5]),
         2 => (&mut fields.p, vec![0, r / 2 - 1, r / 2, r - 1, r, 15, 17]),
         3 => (&mut fields.f, vec![0, 3, 4, 40, 41, 63, 68]),

@@ -211,6 +211,7 @@ pub fn run(effort: &Effort, random: &mut Random) {
         ("polynomial n 5 r 2 m 45", sort(0, 2, 5, 45)),
         ("rational n 16 r 16 m 14", sort(1, 16, 16, 14)),
         ("system n 16 r 2 m 59", sort(2, 2, 16, 59)),
+        ("quotients n 16 r 4 m 29", sort(3, 4, 16, 29)),
     ];
     // As many steps as those of scale 0: the last is m + 1 + s.
     let high_sorts = [

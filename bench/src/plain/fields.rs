@@ -9,6 +9,7 @@ pub const MAX_ORDER: usize = 16;
 pub const POLYNOMIAL: usize = 0;
 pub const RATIONAL: usize = 1;
 pub const SYSTEM: usize = 2;
+pub const QUOTIENTS: usize = 3;
 
 #[derive(Clone, Copy, Debug, PartialEq, Eq)]
 pub struct Fields {
@@ -50,10 +51,10 @@ impl Fields {
         field(self.m, 6);
     }
 
-    /// 2, 14, 3, 4, 5. Three bytes hold no order and no radix code out of range, so one order serves readers
-    /// and writers.
+    /// 2, 14, 3, 4, 5. Three bytes hold no kind, no radix code and no order out of range, so one order serves
+    /// readers and writers.
     pub fn check(&self) -> Result<(), Refusal> {
-        if self.kind > SYSTEM || self.code > 3 {
+        if self.kind > QUOTIENTS || self.code > 3 {
             return Err(Refusal::Kind);
         }
         if self.n < 1 || self.n > MAX_ORDER {
@@ -126,7 +127,8 @@ impl Fields {
         match self.kind {
             POLYNOMIAL => 1 + self.n,
             RATIONAL => 2 * self.n,
-            _ => self.n * (self.n + 1),
+            SYSTEM => self.n * (self.n + 1),
+            _ => 3 * self.n - 2,
         }
     }
 

@@ -1,7 +1,7 @@
 //! Job frames, and the system that a frame's numbers stand for.
 
 use super::bits::{BitReader, BitWriter};
-use super::fields::{Fields, HEADER_BYTES, POLYNOMIAL, RATIONAL};
+use super::fields::{Fields, HEADER_BYTES, POLYNOMIAL, RATIONAL, SYSTEM};
 use super::Refusal;
 
 /// G = I - A row by row, and the right sides b, as whole numbers over 2^f.
@@ -30,7 +30,7 @@ impl System {
                 }
                 b.to_vec()
             }
-            _ => {
+            SYSTEM => {
                 let mut b = Vec::with_capacity(n);
                 let rows = g.chunks_exact_mut(n).zip(numbers.chunks_exact(n + 1));
                 for (i, (to, from)) in rows.enumerate() {
@@ -41,6 +41,16 @@ impl System {
                     b.push(from[n]);
                 }
                 b
+            }
+            // A sum of quotients: c_0, then c, a and b of each in turn.
+            _ => {
+                let mut right_sides = vec![numbers[0]];
+                for (i, quotient) in (1..n).zip(numbers[1..].chunks_exact(3)) {
+                    g[i] = quotient[0];
+                    right_sides.push(quotient[1]);
+                    g[i * n + i] = quotient[2];
+                }
+                right_sides
             }
         };
         let scale = smallest_scale(fields, &b);

@@ -349,7 +349,7 @@ mod tests {
     fn broken_limits() {
         type Break = fn(&mut Job);
         let breaks: [Break; 17] = [
-            |job| job.fields.kind = 3,
+            |job| job.fields.kind = 4,
             |job| job.fields.code = 4,
             |job| job.fields.p = 2,
             |job| job.fields.f = 3,

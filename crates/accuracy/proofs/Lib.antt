@@ -9,3 +9,4 @@ pub mod Examples
 pub mod ExampleE
 pub mod ExampleAdditions
 pub mod ExampleHalf
+pub mod ExampleQuotients

@@ -116,8 +116,8 @@ job-additions frame = additions (order frame) (G frame) (true-digit frame)
 abbrev pub ExactValues : List ℕ → (ℕ → ℤ) → ℕ → Type 0
 ExactValues frame N D = Solves (order frame) (unit-of frame) D (G frame) (b frame) N
 
--- exact values exist, and in all of them row 1's N / D is p_0 + p_1 x + .. over 1 + q_1 x + .., which is
--- above 0
+-- exact values exist, and in all of them row 1's N / D is p_0 + p_1 x + .. over 1 + q_1 x + .., or for a sum
+-- of quotients c_0 + Σ c_i a_i / (1 - b_i): a fraction whose denominator is above 0
 abbrev pub ExactCurve : List ℕ → Type 0
 ExactCurve frame =
     CurveValue (order frame) (unit-of frame) (G frame) (b frame)
@@ -161,7 +161,8 @@ pub record Accurate (frame : List ℕ) (calls : List Call) : Type 0 where
   -- the additions that the calls counted in all are those of the steps made
   pub additions-counted : additions-made frame calls ≡ job-additions frame (after frame calls .k)
   -- after k steps they are at most k - 1 times the entries of G other than 0, and so at most k - 1 times
-  -- n - 1 for a polynomial and 2 (n - 1) for a rational curve; after 0 steps there are none
+  -- n - 1 for a polynomial and 2 (n - 1) for a rational curve or a sum of quotients; after 0 steps there are
+  -- none
   pub additions-most : additions-made frame calls ≤ (after frame calls .k - 1) * entries (order frame) (G frame)
   pub additions-by-kind : additions-made frame calls ≤ (after frame calls .k - 1) * most-entries (kind frame) (order frame)
   -- the scale that the state holds, and hands on with every reading, is the frame's
@@ -172,7 +173,8 @@ pub record Accurate (frame : List ℕ) (calls : List Call) : Type 0 where
       ≤ largest-digit frame * D * factor-of frame
   -- the digit count of the last readings, once all m + 1 + s steps are made
   pub digit-count : after frame calls .k ≡ last-step-of frame → DigitCount frame (Y frame calls (last-step-of frame))
-  -- row 1's exact value is that of the curve, for the kinds that are curves: polynomials and rational curves
+  -- row 1's exact value is that of the curve, for the kinds that are curves: polynomials, rational curves and
+  -- sums of quotients
   pub curve : has-value (kind frame) ≡ true → ExactCurve frame
   -- a readings call on the way hands out each row's Y at the steps made by then, and nothing if it is refused
   pub handed-out : (before rest : List Call) (out : List ℤ) →

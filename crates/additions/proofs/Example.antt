@@ -6,8 +6,8 @@ use mathlib.Core.List.{List, [], _∷_, map}
 use Prim.Native.Nat.{ℕ, zero, suc, _≤_}
 use lib.{Dec.eqb, IntN.ℤ, IntN.pos, IntN.negsuc}
 use Rattle.integers.specs.Sum.{total}
-use Rattle.job.specs.Kind.{polynomial, rational, system, unused}
-use Rattle.system.specs.System.{curve-entry, system-entry, matrix}
+use Rattle.job.specs.Kind.{polynomial, rational, system, quotients, unused}
+use Rattle.system.specs.System.{curve-entry, system-entry, quotients-entry, matrix}
 use Rattle.additions.specs.Additions.{step-additions, additions, entries, ZeroAtFirst, FirstStepNone, AdditionsMost, EntriesMost}
 use Rattle.additions.proofs.Theorems.{first-step-none, additions-most, entries-most}
 
@@ -26,6 +26,11 @@ G = matrix rational 3 16 curve
 abbrev rows : List ℤ
 rows = pos 13 ∷ pos 2 ∷ pos 8 ∷ pos 5 ∷ pos 14 ∷ pos 1 ∷ []
 
+-- A sum of quotients of order 3: c_0 4, then c_1 1, a_1 8 and b_1 2, then c_2 2, a_2 5 and b_2 -3. The rows of
+-- G are 0 1 2, 0 2 0 and 0 0 -3.
+abbrev shunts : List ℤ
+shunts = pos 4 ∷ pos 1 ∷ pos 8 ∷ pos 2 ∷ pos 2 ∷ pos 5 ∷ negsuc 2 ∷ []
+
 -- digits that are 0 before the first step, and 1 in every row from then on
 abbrev d : ℕ → ℕ → ℤ
 d zero j = pos 0
@@ -36,9 +41,9 @@ zero-at-first j l = refl
 
 -- ---- what the definitions give
 
-entry-counts : (entries 3 (matrix polynomial 3 16 curve) ≡ 2) × (entries 3 G ≡ 4) × (entries 2 (matrix system 2 16 rows) ≡ 4) × (entries 3 (matrix unused 3 16 curve) ≡ 0)
-unfolding entries matrix curve-entry system-entry total
-entry-counts = (refl, refl, refl, refl)
+entry-counts : (entries 3 (matrix polynomial 3 16 curve) ≡ 2) × (entries 3 G ≡ 4) × (entries 2 (matrix system 2 16 rows) ≡ 4) × (entries 3 (matrix quotients 3 16 shunts) ≡ 4) × (entries 3 (matrix unused 3 16 curve) ≡ 0)
+unfolding entries matrix curve-entry system-entry quotients-entry total
+entry-counts = (refl, refl, refl, refl, refl)
 
 -- one digit of -1 and the others 0: column 0 of G has two entries, columns 1 and 2 have one each
 each-column : map (λ c. step-additions 3 G (λ j. cond (eqb j c) (negsuc 0) (pos 0))) (0 ∷ 1 ∷ 2 ∷ []) ≡ 2 ∷ 1 ∷ 1 ∷ []
@@ -60,8 +65,8 @@ unfolding entries matrix curve-entry total
 at-most a = (a 3 G d 0 zero-at-first, a 3 G d 2 zero-at-first, a 3 G d 3 zero-at-first)
 
 by-kind : EntriesMost
-    → (entries 3 (matrix polynomial 3 16 curve) ≤ 2) × (entries 3 G ≤ 4) × (entries 2 (matrix system 2 16 rows) ≤ 4) × (entries 3 (matrix unused 3 16 curve) ≤ 0)
-by-kind e = (e polynomial 3 16 curve, e rational 3 16 curve, e system 2 16 rows, e unused 3 16 curve)
+    → (entries 3 (matrix polynomial 3 16 curve) ≤ 2) × (entries 3 G ≤ 4) × (entries 2 (matrix system 2 16 rows) ≤ 4) × (entries 3 (matrix quotients 3 16 shunts) ≤ 4) × (entries 3 (matrix unused 3 16 curve) ≤ 0)
+by-kind e = (e polynomial 3 16 curve, e rational 3 16 curve, e system 2 16 rows, e quotients 3 16 shunts, e unused 3 16 curve)
 
 -- the statements are proved
 pub numbers : (additions 3 G d 1 ≡ 0) × (additions 3 G d 3 ≤ 8) × (entries 3 G ≤ 4)

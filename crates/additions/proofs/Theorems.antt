@@ -1,13 +1,14 @@
 -- The proofs of the statements on the additions that steps cost. What a step costs is counted in `Laws`, and
--- the entries of a curve here, column by column.
+-- the entries of a curve here, column by column, of a sum of quotients row by row.
 use mathlib.Core.Path.{_≡_, refl, sym, ap}
 use Prim.Native.Nat.{ℕ, zero, suc, _+_, _*_, _-_, _<_, _≤_}
 use native.Mathlib.Omega.{arith}
 use borrow.Author.Tests.{ne-eqb}
 use lib.IntN.{ℤ}
+use Rattle.integers.specs.Sum.{total}
 use Rattle.integers.proofs.Sum.{total-head, total-none, total-one, total-le}
-use Rattle.job.specs.Kind.{polynomial, rational, system, unused}
-use Rattle.system.specs.System.{argument, denominator, no-denominator, curve-entry, matrix}
+use Rattle.job.specs.Kind.{polynomial, rational, system, quotients, unused}
+use Rattle.system.specs.System.{argument, denominator, no-denominator, curve-entry, coefficient, subtrahend, quotients-entry, matrix}
 use Rattle.additions.specs.Additions.{nonzero, entries, FirstStepNone, AdditionsMost, EntriesMost}
 use Rattle.additions.proofs.Laws.{nonzero-most, column-entries, entries-by-columns, entries-square, additions-zero, additions-after-first}
 
@@ -64,6 +65,36 @@ first-column-none m x = total-none (suc m) _ (λ i l. none i)
     none zero = refl
     none (suc i) = refl
 
+-- ---- the entries of a sum of quotients of order m + 1, row by row
+
+module _ (m : ℕ) (c b : ℕ → ℤ) where
+  abbrev row : ℕ → ℕ
+  row i = total (suc m) (λ j. nonzero (quotients-entry c b i j))
+
+  -- the first row has none in its first column
+  first-row : row 0 ≤ m
+  unfolding quotients-entry
+  first-row =
+      omega (
+        arith,
+        total-head m (λ j. nonzero (quotients-entry c b 0 j)),
+        total-le m (λ j. nonzero (quotients-entry c b 0 (suc j))) 1 (λ j l. nonzero-most (quotients-entry c b 0 (suc j))),
+      )
+
+  -- a later row has one, on the diagonal
+  later-row : (i : ℕ) → i < m → row (suc i) ≤ 1
+  unfolding quotients-entry
+  later-row i l =
+      omega (
+        arith,
+        total-one (suc m) (suc i) (λ j. nonzero (quotients-entry c b (suc i) j)) (omega arith) (λ j k h. rw (ne-eqb j (suc i) h)),
+        nonzero-most (quotients-entry c b (suc i) (suc i)),
+      )
+
+  quotients-entries : entries (suc m) (quotients-entry c b) ≤ 2 * m
+  unfolding entries
+  quotients-entries = omega (arith, total-head m row, first-row, total-le m (λ i. row (suc i)) 1 later-row)
+
 pub entries-most : EntriesMost
 unfolding matrix entries
 entries-most polynomial zero u v = omega (arith, entries-square 0 (matrix polynomial 0 u v))
@@ -73,4 +104,6 @@ entries-most rational zero u v = omega (arith, entries-square 0 (matrix rational
 entries-most rational (suc m) u v =
     omega (arith, past-first-column m (argument v) (denominator (suc m) v), first-column m (argument v) (denominator (suc m) v))
 entries-most system n u v = entries-square n (matrix system n u v)
+entries-most quotients zero u v = omega (arith, entries-square 0 (matrix quotients 0 u v))
+entries-most quotients (suc m) u v = omega (arith, quotients-entries m (coefficient v) (subtrahend v))
 entries-most unused n u v = omega (arith, total-none n _ (λ i l. total-none n _ (λ j k. refl)))

@@ -5,7 +5,7 @@ use mathlib.Core.{Path._≡_, Bool.cond, List.List}
 use Prim.Native.Nat.{ℕ, _*_, _-_, _<_, _≤_}
 use lib.{Dec.eqb, IntN.ℤ, IntN.pos, IntN.natAbs}
 use Rattle.integers.specs.Sum.{total}
-use Rattle.job.specs.Kind.{Kind, polynomial, rational, system, unused}
+use Rattle.job.specs.Kind.{Kind, polynomial, rational, system, quotients, unused}
 use Rattle.system.specs.System.{matrix}
 
 -- 1 for a number other than 0, and 0 for 0
@@ -43,6 +43,7 @@ abbrev pub most-entries : Kind → ℕ → ℕ
 most-entries polynomial n = n - 1
 most-entries rational n = 2 * (n - 1)
 most-entries system n = n * n
+most-entries quotients n = 2 * (n - 1)
 most-entries unused n = 0
 
 abbrev pub EntriesMost : Type 0

@@ -5,7 +5,7 @@ use Rattle.integers.specs.Sum.{dot, weight, sum, total}
 use Rattle.bitfields.specs.Layout.{field, number, bits, values-from, octets, pack}
 use Rattle.bitfields.specs.Twos.{encode, decode}
 use Rattle.system.specs.Rows.{first-row-from}
-use Rattle.system.specs.System.{curve-entry, system-entry, matrix, right-side}
+use Rattle.system.specs.System.{curve-entry, system-entry, quotients-entry, matrix, right-side}
 use Rattle.scale.specs.Scale.{every}
 use Rattle.frame.specs.Frame.{frame-checks}
 use Rattle.stepping.specs.Steps.{stepped-digits, stepped-residuals, steps, one-step}
@@ -20,5 +20,5 @@ unfolding table
 table-size = refl
 
 pub table-holds : TableHolds
-unfolding table outcome-of digit-rows list-from stores dot weight sum total field number bits values-from octets pack encode decode first-row-from curve-entry system-entry matrix right-side every frame-checks stepped-digits stepped-residuals shifted next-digit next-residual reading select rounded estimate cut-down digit-size beyond fresh idle-state breaks-limit loaded advanced advance-checks steps one-step steps-made digit-list digit-array state-record
+unfolding table outcome-of digit-rows list-from stores dot weight sum total field number bits values-from octets pack encode decode first-row-from curve-entry system-entry quotients-entry matrix right-side every frame-checks stepped-digits stepped-residuals shifted next-digit next-residual reading select rounded estimate cut-down digit-size beyond fresh idle-state breaks-limit loaded advanced advance-checks steps one-step steps-made digit-list digit-array state-record
 table-holds = refl

@@ -14,7 +14,7 @@ use Rattle.integers.proofs.Maximum.{below-suc}
 use Rattle.integers.specs.Sum.{dot, sum}
 use Rattle.bitfields.specs.Layout.{field, number, bits, values-from}
 use Rattle.bitfields.specs.Twos.{decode}
-use Rattle.system.specs.System.{curve-entry, system-entry, matrix, right-side}
+use Rattle.system.specs.System.{curve-entry, system-entry, quotients-entry, matrix, right-side}
 use Rattle.accuracy.specs.Accuracy.{order, unit-of, G, b}
 use Rattle.case_table.specs.Table.{Case, table, Exact, ValuesExact}
 
@@ -96,7 +96,7 @@ module _ (c : Case) where
 -- ---- every case
 
 all-pass : T (every case-test table)
-unfolding table dot sum field number bits values-from decode curve-entry system-entry matrix right-side
+unfolding table dot sum field number bits values-from decode curve-entry system-entry quotients-entry matrix right-side
 all-pass = tt
 
 pub values-hold : ValuesExact

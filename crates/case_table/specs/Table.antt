@@ -1,8 +1,8 @@
--- Document 01's cases, marked * or not, those of scales (document 02, request 1) and one of the estimate
--- (request 3) as one table: what the definitions make of each frame, and the exact values of its system
--- (claim C10). Since request 3 the frames of A, B, C and E are refused by 8, and each stands with a frame
--- near it that still loads. The statements are proved in proofs/Holds.antt and proofs/Values.antt, and the
--- crate cases makes the calls and compares.
+-- Document 01's cases, marked * or not, those of scales (document 02, request 1), one of the estimate (request
+-- 3) and those of sums of quotients (request 7) as one table: what the definitions make of each frame, and the
+-- exact values of its system (claim C10). Since request 3 the frames of A, B, C and E are refused by 8, and
+-- each stands with a frame near it that still loads. The statements are proved in proofs/Holds.antt and
+-- proofs/Values.antt, and the crate cases makes the calls and compares.
 use mathlib.Core.{Path._≡_, Bool.cond, List.List, List.[], List._∷_, List.List·Memᴰ, List.map}
 use Prim.Native.Nat.{ℕ, zero, suc, _<_}
 use lib.{Dec.eqb, IntN.ℤ, IntN.pos, IntN.negℤ, ListN.length, ListN.replicate}
@@ -182,6 +182,23 @@ table =
     accepted (1 ∷ 28 ∷ 68 ∷ 13 ∷ 248 ∷ 66 ∷ 128 ∷ []) 0 (pos 27 ∷ minus 31 ∷ pos 20 ∷ []) (minus 7 ∷ pos 5 ∷ [])
     ((minus 1 ∷ pos 1 ∷ pos 0 ∷ pos 1 ∷ minus 1 ∷ []) ∷ (pos 0 ∷ pos 1 ∷ minus 1 ∷ pos 1 ∷ minus 1 ∷ []) ∷ [])
     (1 ∷ 28 ∷ 68 ∷ 23 ∷ 224 ∷ 8 ∷ 65 ∷ 240 ∷ 135 ∷ 255 ∷ []) 4096 (minus 857 ∷ pos 640 ∷ []) ∷
+    -- a sum of quotients: c_0 4, c_1 2, a_1 8, b_1 2, whose value is 9/28
+    accepted (193 ∷ 16 ∷ 68 ∷ 16 ∷ 34 ∷ 2 ∷ []) 0 (pos 4 ∷ pos 2 ∷ pos 8 ∷ pos 2 ∷ []) (pos 10 ∷ pos 18 ∷ [])
+    ((pos 1 ∷ minus 1 ∷ pos 1 ∷ minus 1 ∷ pos 0 ∷ []) ∷ (pos 1 ∷ pos 0 ∷ pos 1 ∷ minus 1 ∷ pos 0 ∷ []) ∷ [])
+    (193 ∷ 16 ∷ 68 ∷ 20 ∷ 33 ∷ 248 ∷ 2 ∷ 31 ∷ 252 ∷ 0 ∷ []) 28 (pos 9 ∷ pos 16 ∷ []) ∷
+    -- a sum of quotients of order 1: c_0 8 and nothing else is sent
+    accepted (193 ∷ 16 ∷ 4 ∷ 32 ∷ []) 0 (pos 8 ∷ []) (pos 16 ∷ [])
+    ((pos 1 ∷ pos 0 ∷ pos 0 ∷ pos 0 ∷ pos 0 ∷ []) ∷ [])
+    (193 ∷ 16 ∷ 4 ∷ 20 ∷ 32 ∷ 0 ∷ 0 ∷ []) 2 (pos 1 ∷ []) ∷
+    -- a sum of two quotients: c_1 1 and c_2 -2 weigh 3, b_1 3, b_2 -3; a_1 -9 gives it scale 1
+    accepted (193 ∷ 16 ∷ 132 ∷ 20 ∷ 29 ∷ 195 ∷ 248 ∷ 111 ∷ 64 ∷ []) 1 (pos 5 ∷ pos 1 ∷ minus 9 ∷ pos 3 ∷ minus 2 ∷ pos 6 ∷ minus 3 ∷ []) (pos 7 ∷ minus 22 ∷ pos 10 ∷ [])
+    ((pos 0 ∷ pos 1 ∷ minus 1 ∷ pos 0 ∷ minus 1 ∷ pos 1 ∷ []) ∷ (minus 1 ∷ pos 1 ∷ minus 1 ∷ pos 0 ∷ pos 1 ∷ pos 0 ∷ []) ∷ (pos 0 ∷ pos 1 ∷ minus 1 ∷ pos 1 ∷ minus 1 ∷ pos 0 ∷ []) ∷ [])
+    (193 ∷ 16 ∷ 132 ∷ 24 ∷ 31 ∷ 0 ∷ 66 ∷ 31 ∷ 255 ∷ 224 ∷ 0 ∷ 126 ∷ 31 ∷ 132 ∷ 0 ∷ []) 988 (pos 227 ∷ minus 684 ∷ pos 312 ∷ []) ∷
+    refused (193 ∷ 16 ∷ 68 ∷ 16 ∷ 66 ∷ 2 ∷ []) 8 1 ∷  -- a sum of quotients: c_1 4
+    -- a sum of two quotients: c_1 2 and c_2 -2 weigh 4
+    refused (193 ∷ 16 ∷ 132 ∷ 16 ∷ 34 ∷ 2 ∷ 248 ∷ 128 ∷ 128 ∷ []) 8 1 ∷
+    -- a sum of two quotients: b_2 -4
+    refused (193 ∷ 16 ∷ 132 ∷ 16 ∷ 18 ∷ 2 ∷ 4 ∷ 143 ∷ 0 ∷ []) 8 3 ∷
     []
 
 -- ---- what is proved of it
@@ -191,7 +208,7 @@ abbrev pub rows-in-table : ℕ
 rows-in-table = length table
 
 abbrev pub TableSize : Type 0
-TableSize = rows-in-table ≡ 38
+TableSize = rows-in-table ≡ 44
 
 -- every row is what the definitions make of its frame
 abbrev pub TableHolds : Type 0

@@ -31,13 +31,13 @@ unfoldable pub lines : ℕ → List ℤ → List (List ℤ)
 lines zero words = []
 lines (suc k) words = take 15 words ∷ lines k (drop 15 words)
 
--- 112 lines have room for 1,680 words, 13 more than there are
+-- 124 lines have room for 1,860 words, 7 more than there are
 unfoldable pub table-lines : List (List ℤ)
-table-lines = lines 112 (table-words ++ replicate 13 (pos 0))
+table-lines = lines 124 (table-words ++ replicate 7 (pos 0))
 
 -- the word at a place, and 0 past the last line
 abbrev pub word-at : List (List ℤ) → ℕ → ℤ
-word-at ls place = cond (ltb place 1680) (at (getD ls (place / 15) []) (place % 15)) (pos 0)
+word-at ls place = cond (ltb place 1860) (at (getD ls (place / 15) []) (place % 15)) (pos 0)
 
 -- ---- what the program's comparisons say of words
 

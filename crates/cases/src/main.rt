@@ -121,13 +121,17 @@ fn same_numbers(t: &Lines, place: usize, frame: &[u8]) -> bool
 {
     let mut v = [0i64; NUMBERS];
     let a = emethod::read_frame(frame, &mut v);
-    if !says(t, place, a.refusal) || !says(t, place + 1, a.row) || 16 < a.header.n {
+    if !says(t, place, a.refusal) || !says(t, place + 1, a.row) {
         return false;
     }
     if a.refusal != 0 {
         return same_list(t, place + 3, &v, 0);
     }
-    same_list(t, place + 3, &v, job::count(a.header))
+    let h = a.header;
+    if h.n < 1 || 16 < h.n {
+        return false;
+    }
+    same_list(t, place + 3, &v, job::count(h))
 }
 
 // A byte as a number with a sign.

@@ -56,12 +56,12 @@ module _ (u : ℕ) (x : ℤ) (p q : ℕ → ℤ) where
 -- ---- the matrix at orders 1, 2 and 3
 
 -- the first n entries of a row
-abbrev entries : ℕ → (ℕ → ℤ) → List ℤ
+abbrev pub entries : ℕ → (ℕ → ℤ) → List ℤ
 entries zero g = []
 entries (suc n) g = g 0 ∷ entries n (λ j. g (suc j))
 
 -- the first n rows
-abbrev table : ℕ → (ℕ → List ℤ) → List (List ℤ)
+abbrev pub table : ℕ → (ℕ → List ℤ) → List (List ℤ)
 table zero g = []
 table (suc n) g = g 0 ∷ table n (λ i. g (suc i))
 

@@ -1,5 +1,5 @@
 -- Row 1 of a curve's system has the curve's value (document 01, "One step"): the proofs of the statements of
--- specs/Curve.antt.
+-- specs/Curve.antt, but for that of a sum of quotients, which stands in `Quotients`.
 use mathlib.Core.Path.{_≡_, sym, ap}
 use mathlib.Core.Bool.{true≢false}
 use Prim.Native.Nat.{ℕ, zero, suc, _*_, _-_, _<_, _≤_, _^_}
@@ -14,13 +14,14 @@ use Rattle.integers.specs.Sum.{_^ℤ_}
 use Rattle.integers.proofs.Power.{pow-pos, pow-positive}
 use Rattle.integers.proofs.Product.{entry-le-weight}
 use Rattle.integers.proofs.Sum.{sum-none}
-use Rattle.job.specs.Kind.{polynomial, rational, system, unused}
-use Rattle.system.specs.System.{curve-entry, past-first, argument, numerator, denominator, no-denominator, matrix, right-side}
+use Rattle.job.specs.Kind.{polynomial, rational, system, quotients, unused}
+use Rattle.system.specs.System.{curve-entry, past-first, argument, numerator, denominator, no-denominator, coefficient, subtrahend, matrix, right-side}
 use Rattle.recurrence.specs.Recurrence.{Solves}
 use Rattle.recurrence.proofs.Equations.{solves-ext}
 use Rattle.curve.specs.Curve.{numerator-value, denominator-value, RationalValue, PolynomialValue, KindValue}
 use Rattle.curve.proofs.Horner.{horner, horner-small, numerator-horner, denominator-horner}
 use Rattle.curve.proofs.Differences.{first-value, found, found-solves}
+use Rattle.curve.proofs.Quotients.{quotients-value}
 use Rattle.curve.proofs.Rows.{entry-first, entry-next, to-differences, of-differences, cut, cut-below, cut-end}
 
 -- a rational curve of any order
@@ -89,4 +90,5 @@ unfolding matrix right-side
 kind-value polynomial n u v e unit some short = rational-value u (argument v) (numerator v) no-denominator n unit some short
 kind-value rational n u v e unit some short = rational-value u (argument v) (numerator v) (denominator n v) n unit some short
 kind-value system n u v e unit some short = absurd (true≢false (sym e))
+kind-value quotients n u v e unit some short = quotients-value u (coefficient v) (right-side quotients n v) (subtrahend v) n unit some short
 kind-value unused n u v e unit some short = absurd (true≢false (sym e))

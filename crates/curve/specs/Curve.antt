@@ -1,14 +1,16 @@
 -- The value of a curve as a fraction P / Q of whole numbers, and what is promised of it (document 01, "The
--- system" and "One step"). proofs/Value.antt proves each statement, proofs/Examples.antt spells them out.
+-- system" and "One step"). Sums of quotients are curves too; their P and Q stand in Quotients.antt.
+-- proofs/Value.antt proves each statement, proofs/Examples.antt spells them out.
 use mathlib.Core.{Path._≡_, Bool.Bool, Bool.true, Bool.false, List.List}
 use Prim.Native.Nat.{ℕ, suc, _*_, _-_, _<_, _≤_}
 use lib.{IntN.ℤ, IntN.pos, IntN._+ℤ_, IntN._*ℤ_, Signed._<ℤ_}
 use Rattle.integers.specs.Sum.{_^ℤ_, weight, sum}
-use Rattle.job.specs.Kind.{Kind, polynomial, rational, system, unused}
-use Rattle.system.specs.System.{past-first, curve-entry, argument, numerator, denominator, no-denominator, matrix, right-side}
+use Rattle.job.specs.Kind.{Kind, polynomial, rational, system, quotients, unused}
+use Rattle.system.specs.System.{past-first, curve-entry, argument, numerator, denominator, no-denominator, coefficient, subtrahend, quotients-entry, matrix, right-side}
 use Rattle.recurrence.specs.Recurrence.{Solves}
+use Rattle.curve.specs.Quotients.{quotients-over, quotients-under}
 
--- The numbers x, p_i and q_i are in units of 1/u: they stand for x/u, p_i/u and q_i/u. So the curve is
+-- The numbers x, p_i and q_i are in units of 1/u: they stand for x/u, p_i/u and q_i/u. So a rational curve is
 --
 --     p_0/u + (p_1/u) (x/u) + .. + (p_(n-1)/u) (x/u)^(n-1)
 --   -------------------------------------------------------
@@ -32,6 +34,7 @@ abbrev pub has-value : Kind → Bool
 has-value polynomial = true
 has-value rational = true
 has-value system = false
+has-value quotients = true
 has-value unused = false
 
 -- P and Q
@@ -39,12 +42,14 @@ abbrev pub value-over : (kind : Kind) (n u : ℕ) (v : List ℤ) → ℤ
 value-over polynomial n u v = numerator-value u (argument v) (numerator v) n
 value-over rational n u v = numerator-value u (argument v) (numerator v) n
 value-over system n u v = pos 0
+value-over quotients n u v = quotients-over u (coefficient v) (right-side quotients n v) (subtrahend v) n
 value-over unused n u v = pos 0
 
 abbrev pub value-under : (kind : Kind) (n u : ℕ) (v : List ℤ) → ℤ
 value-under polynomial n u v = denominator-value u (argument v) no-denominator n
 value-under rational n u v = denominator-value u (argument v) (denominator n v) n
 value-under system n u v = pos 1
+value-under quotients n u v = quotients-under u (subtrahend v) n
 value-under unused n u v = pos 1
 
 -- ---- what is said of a system
@@ -77,6 +82,11 @@ RationalValue = (u : ℕ) (x : ℤ) (p q : ℕ → ℤ) (n : ℕ) → 0 < u → 
 abbrev pub PolynomialValue : Type 0
 PolynomialValue = (u : ℕ) (x : ℤ) (p : ℕ → ℤ) (n : ℕ) → 0 < u → 0 < n → ShortRows n u (curve-entry x no-denominator) →
     CurveValue n u (curve-entry x no-denominator) p (numerator-value u x p n) (pos u ^ℤ n)
+
+-- a sum of quotients, whose right-hand sides a are c_0 and the a_i
+abbrev pub QuotientsValue : Type 0
+QuotientsValue = (u : ℕ) (c a b : ℕ → ℤ) (n : ℕ) → 0 < u → 0 < n → ShortRows n u (quotients-entry c b) →
+    CurveValue n u (quotients-entry c b) a (quotients-over u c a b n) (quotients-under u b n)
 
 -- the numbers v of every kind that has a value
 abbrev pub KindValue : Type 0

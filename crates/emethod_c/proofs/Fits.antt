@@ -3,7 +3,7 @@ use Prim.Native.Nat.{ℕ, _-_, _≤_}
 use native.Mathlib.Nat.{mul-le-mul}
 use native.Mathlib.Omega.{arith}
 use Rattle.additions.specs.Additions.{most-entries}
-use Rattle.job.specs.Kind.{Kind, polynomial, rational, system, unused}
+use Rattle.job.specs.Kind.{Kind, polynomial, rational, system, quotients, unused}
 use Rattle.job.proofs.Limits.{last-small}
 use Rattle.header.specs.Header.{header-of}
 use Rattle.frame.proofs.Valid.{accepted-frame}
@@ -18,6 +18,7 @@ entries-small : (k : Kind) (n : ℕ) → n ≤ 16 → most-entries k n ≤ 256
 entries-small polynomial n h = omega arith
 entries-small rational n h = omega arith
 entries-small system n h = omega (arith, mul-le-mul h h)
+entries-small quotients n h = omega arith
 entries-small unused n h = omega arith
 
 pub additions-fit : AdditionsFit

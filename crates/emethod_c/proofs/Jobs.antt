@@ -7,6 +7,7 @@ use borrow.Author.Tests.{ne-eqb, eq-eqb}
 use lib.IntN.{ℤ}
 use lib.ListN.{length}
 use Rattle.job.specs.Header.{count}
+use Rattle.job.proofs.Limits.{order-within}
 use Rattle.frame.specs.Frame.{frame-refusal}
 use Rattle.header.specs.Header.{header-of}
 use Rattle.frame.proofs.Valid.{accepted-frame}
@@ -51,9 +52,9 @@ module _ (frame : List ℕ) (l : Loaded) (e : l ≡ loaded frame) where
     unfolding fresh
     header-is = ap (λ (x : Loaded). x .state .header) e ∙ ap (λ s. s .header) (accepted-load frame none)
 
-    pub order-most : l .state .header .n ≤ 16
+    pub order-kept : (1 ≤ l .state .header .n) × (l .state .header .n ≤ 16)
     unfolding loaded
-    order-most = rw header-is (accepted-frame frame .0 none .valid .limits .order-most)
+    order-kept = rw header-is (order-within _ (accepted-frame frame .0 none .valid .limits))
 
     pub check-accepted : (c r : ℕ) → c ≡ count (l .state .header) → r ≡ scaled-answer-of 0 0 c (l .state .scale) → r ≡ check-answer frame
     unfolding check-answer loaded

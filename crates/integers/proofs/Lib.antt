@@ -7,6 +7,7 @@ pub mod Linear
 pub mod Maximum
 pub mod Sum
 pub mod Product
+pub mod Factors
 pub mod Power
 pub mod Flat
 pub mod Stores

@@ -38,14 +38,14 @@ pub data Pol : Type 0 where
   nil : Pol
   term : ℤ → List ℕ → Pol → Pol
 
--- what they stand for where the variables have the values ρ
-abbrev pub product : List ℤ → List ℕ → ℤ
-product ρ [] = pos 1
-product ρ (i ∷ m) = getD ρ i (pos 0) *ℤ product ρ m
+-- what a list of variables, multiplied, and a polynomial stand for where the variables have the values ρ
+abbrev pub monomial : List ℤ → List ℕ → ℤ
+monomial ρ [] = pos 1
+monomial ρ (i ∷ m) = getD ρ i (pos 0) *ℤ monomial ρ m
 
 abbrev pub value : List ℤ → Pol → ℤ
 value ρ nil = pos 0
-value ρ (term c m p) = c *ℤ product ρ m +ℤ value ρ p
+value ρ (term c m p) = c *ℤ monomial ρ m +ℤ value ρ p
 
 -- lists of variables
 abbrev pub insert : ℕ → List ℕ → List ℕ
@@ -119,57 +119,57 @@ exchange : (c d x y : ℤ) → (c *ℤ d) *ℤ (x *ℤ y) ≡ (c *ℤ x) *ℤ (d
 exchange c d x y = rw (*ℤ-assoc c d (x *ℤ y), *ℤ-left-comm d x y, *ℤ-assoc c x (d *ℤ y))
 
 module _ (ρ : List ℤ) where
-  insert-value : (i : ℕ) (m : List ℕ) → product ρ (insert i m) ≡ getD ρ i (pos 0) *ℤ product ρ m
+  insert-value : (i : ℕ) (m : List ℕ) → monomial ρ (insert i m) ≡ getD ρ i (pos 0) *ℤ monomial ρ m
   insert-value i [] = refl
   insert-value i (j ∷ m) =
-      cond-vars (leb i j) (i ∷ j ∷ m) (j ∷ insert i m) (λ n. product ρ n ≡ getD ρ i (pos 0) *ℤ (getD ρ j (pos 0) *ℤ product ρ m)) refl
-      (rw (insert-value i m) (*ℤ-left-comm (getD ρ j (pos 0)) (getD ρ i (pos 0)) (product ρ m)))
+      cond-vars (leb i j) (i ∷ j ∷ m) (j ∷ insert i m) (λ n. monomial ρ n ≡ getD ρ i (pos 0) *ℤ (getD ρ j (pos 0) *ℤ monomial ρ m)) refl
+      (rw (insert-value i m) (*ℤ-left-comm (getD ρ j (pos 0)) (getD ρ i (pos 0)) (monomial ρ m)))
 
-  merge-value : (m n : List ℕ) → product ρ (merge m n) ≡ product ρ m *ℤ product ρ n
-  merge-value [] n = sym (one-*ℤ (product ρ n))
+  merge-value : (m n : List ℕ) → monomial ρ (merge m n) ≡ monomial ρ m *ℤ monomial ρ n
+  merge-value [] n = sym (one-*ℤ (monomial ρ n))
   merge-value (i ∷ m) n =
-      insert-value i (merge m n) ∙ rw (merge-value m n) (sym (*ℤ-assoc (getD ρ i (pos 0)) (product ρ m) (product ρ n)))
+      insert-value i (merge m n) ∙ rw (merge-value m n) (sym (*ℤ-assoc (getD ρ i (pos 0)) (monomial ρ m) (monomial ρ n)))
 
-  add-term-value : (c : ℤ) (m : List ℕ) (p : Pol) → value ρ (add-term c m p) ≡ c *ℤ product ρ m +ℤ value ρ p
+  add-term-value : (c : ℤ) (m : List ℕ) (p : Pol) → value ρ (add-term c m p) ≡ c *ℤ monomial ρ m +ℤ value ρ p
   add-term-value c m nil = refl
   add-term-value c m (term d k p) =
       cond-pol (same m k) (term (c +ℤ d) m p) (cond (before m k) (term c m (term d k p)) (term d k (add-term c m p))) Sum
-      (λ t. rw (← same-eq m k t) (collect c d (product ρ m) (value ρ p)))
+      (λ t. rw (← same-eq m k t) (collect c d (monomial ρ m) (value ρ p)))
       (cond-pol (before m k) (term c m (term d k p)) (term d k (add-term c m p)) Sum (λ t. refl)
-      (rw (add-term-value c m p) (+ℤ-left-comm (d *ℤ product ρ k) (c *ℤ product ρ m) (value ρ p))))
+      (rw (add-term-value c m p) (+ℤ-left-comm (d *ℤ monomial ρ k) (c *ℤ monomial ρ m) (value ρ p))))
     where
       Sum : Pol → Type 0
-      Sum q = value ρ q ≡ c *ℤ product ρ m +ℤ (d *ℤ product ρ k +ℤ value ρ p)
+      Sum q = value ρ q ≡ c *ℤ monomial ρ m +ℤ (d *ℤ monomial ρ k +ℤ value ρ p)
 
   add-pol-value : (p q : Pol) → value ρ (add-pol p q) ≡ value ρ p +ℤ value ρ q
   add-pol-value nil q = sym (+ℤ-idl (value ρ q))
   add-pol-value (term c m p) q =
-      add-term-value c m (add-pol p q) ∙ rw (add-pol-value p q) (sym (+ℤ-assoc (c *ℤ product ρ m) (value ρ p) (value ρ q)))
+      add-term-value c m (add-pol p q) ∙ rw (add-pol-value p q) (sym (+ℤ-assoc (c *ℤ monomial ρ m) (value ρ p) (value ρ q)))
 
-  mul-term-value : (c : ℤ) (m : List ℕ) (p : Pol) → value ρ (mul-term c m p) ≡ (c *ℤ product ρ m) *ℤ value ρ p
-  mul-term-value c m nil = sym (*ℤ-zero (c *ℤ product ρ m))
+  mul-term-value : (c : ℤ) (m : List ℕ) (p : Pol) → value ρ (mul-term c m p) ≡ (c *ℤ monomial ρ m) *ℤ value ρ p
+  mul-term-value c m nil = sym (*ℤ-zero (c *ℤ monomial ρ m))
   mul-term-value c m (term d k p) =
       add-term-value (c *ℤ d) (merge m k) (mul-term c m p)
-      ∙ rw (merge-value m k, mul-term-value c m p, exchange c d (product ρ m) (product ρ k))
-      (sym (*ℤ-distl (c *ℤ product ρ m) (d *ℤ product ρ k) (value ρ p)))
+      ∙ rw (merge-value m k, mul-term-value c m p, exchange c d (monomial ρ m) (monomial ρ k))
+      (sym (*ℤ-distl (c *ℤ monomial ρ m) (d *ℤ monomial ρ k) (value ρ p)))
 
   mul-pol-value : (p q : Pol) → value ρ (mul-pol p q) ≡ value ρ p *ℤ value ρ q
   mul-pol-value nil q = sym (zero-*ℤ (value ρ q))
   mul-pol-value (term c m p) q =
       add-pol-value (mul-term c m q) (mul-pol p q)
-      ∙ rw (mul-term-value c m q, mul-pol-value p q) (sym (*ℤ-distr (c *ℤ product ρ m) (value ρ p) (value ρ q)))
+      ∙ rw (mul-term-value c m q, mul-pol-value p q) (sym (*ℤ-distr (c *ℤ monomial ρ m) (value ρ p) (value ρ q)))
 
   neg-pol-value : (p : Pol) → value ρ (neg-pol p) ≡ negℤ (value ρ p)
   neg-pol-value nil = refl
   neg-pol-value (term c m p) =
-      rw (neg-pol-value p, *ℤ-negl c (product ρ m)) (sym (negℤ-+ℤ (c *ℤ product ρ m) (value ρ p)))
+      rw (neg-pol-value p, *ℤ-negl c (monomial ρ m)) (sym (negℤ-+ℤ (c *ℤ monomial ρ m) (value ρ p)))
 
   vanishes-value : (p : Pol) → T (vanishes p) → value ρ p ≡ pos 0
   vanishes-value nil t = refl
   vanishes-value (term c m p) t =
       let z : natAbs c ≡ 0 = eqb→eq (natAbs c) 0 (both-left (eqb (natAbs c) 0) (vanishes p) t) in
       let e : c ≡ pos 0 = abs-zero c (omega arith) in
-      rw (e, zero-*ℤ (product ρ m), vanishes-value p (both-right (eqb (natAbs c) 0) (vanishes p) t))
+      rw (e, zero-*ℤ (monomial ρ m), vanishes-value p (both-right (eqb (natAbs c) 0) (vanishes p) t))
 
 -- ---- a number as the value of a polynomial, found by `search polys`
 

@@ -1,8 +1,9 @@
 -- Sums over the indices below n, and what is made of them: the product of a row with a vector, and the weight
--- of a row. Rows and vectors are functions of a column, of which the columns below n count. And powers of a
--- whole number, and a bound on one.
+-- of a row. Rows and vectors are functions of a column, of which the columns below n count. And products over
+-- the indices below n, powers of a whole number, and a bound on one.
+use mathlib.Core.Bool.{cond}
 use Prim.Native.Nat.{ℕ, zero, suc, _+_, _≤_}
-use lib.IntN.{ℤ, pos, natAbs, _+ℤ_, _*ℤ_}
+use lib.{Dec.eqb, IntN.ℤ, IntN.pos, IntN.natAbs, IntN._+ℤ_, IntN._*ℤ_}
 
 -- f 0 + f 1 + .. + f (n - 1), of whole numbers and of natural numbers
 unfoldable pub sum : ℕ → (ℕ → ℤ) → ℤ
@@ -20,6 +21,14 @@ dot n g d = sum n (λ j. g j *ℤ d j)
 -- Σ |g j| over the columns j below n: document 01's weight of a row
 unfoldable pub weight : ℕ → (ℕ → ℤ) → ℕ
 weight n g = total n (λ j. natAbs (g j))
+
+-- f 0 · f 1 · .. · f (n - 1), and the same without the factor f i
+unfoldable pub product : ℕ → (ℕ → ℤ) → ℤ
+product zero f = pos 1
+product (suc n) f = product n f *ℤ f n
+
+unfoldable pub product-without : (n i : ℕ) (f : ℕ → ℤ) → ℤ
+product-without n i f = product n (λ j. cond (eqb j i) (pos 1) (f j))
 
 -- x to the k
 infixr 8 _^ℤ_

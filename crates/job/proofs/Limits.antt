@@ -14,7 +14,7 @@ use Rattle.integers.proofs.Power.{pow-pow}
 use Rattle.job.specs.Refusal.{first-refusal, None, none, also}
 use Rattle.job.proofs.Refusal.{accepted-exactly, neither, fails, both-fail}
 use Rattle.job.specs.Header.{radix, digit-bits, unit, frame-code, trace-code, steps-out-of-range, unknown-kind, read-checks-knowing, header-checks-knowing, read-checks, trace-read-checks, trace-header-checks, Limits, LimitsExactly}
-use Rattle.job.specs.Kind.{Kind, polynomial, rational, system, unused, kind-of, is-unused, count-of, most-numbers}
+use Rattle.job.specs.Kind.{Kind, polynomial, rational, system, quotients, unused, kind-of, is-unused, count-of, most-numbers}
 use Rattle.job.specs.Rules.{last-step, trace-steps, most-scale, scaled-steps-out-of-range, scale-out-of-range, ScaleLimits, scale-factor, inner-unit, bound-over, bound-under}
 use Rattle.job.specs.declared.Header.{Header}
 
@@ -28,24 +28,26 @@ many-digits h l = rw (ne-eqb (h .m) 0 (λ e. omega arith)) (lt-ltb 60 ((h .m + 1
 
 -- ---- the table of kinds: a number past its end, as the code tests it
 
-pub unused-is : (k : ℕ) → ltb 2 k ≡ is-unused (kind-of k)
+pub unused-is : (k : ℕ) → ltb 3 k ≡ is-unused (kind-of k)
 unused-is zero = refl
 unused-is (suc zero) = refl
 unused-is (suc (suc zero)) = refl
-unused-is (suc (suc (suc k))) = lt-ltb 2 (suc (suc (suc k))) (omega arith)
+unused-is (suc (suc (suc zero))) = refl
+unused-is (suc (suc (suc (suc k)))) = lt-ltb 3 (suc (suc (suc (suc k)))) (omega arith)
 
-pub other-kind : (k : ℕ) → (k ≡ 0 → ⊥) → (k ≡ 1 → ⊥) → (k ≡ 2 → ⊥) → kind-of k ≡ unused
-other-kind zero a b c = absurd (a refl)
-other-kind (suc zero) a b c = absurd (b refl)
-other-kind (suc (suc zero)) a b c = absurd (c refl)
-other-kind (suc (suc (suc k))) a b c = refl
+pub other-kind : (k : ℕ) → (k ≡ 0 → ⊥) → (k ≡ 1 → ⊥) → (k ≡ 2 → ⊥) → (k ≡ 3 → ⊥) → kind-of k ≡ unused
+other-kind zero a b c d = absurd (a refl)
+other-kind (suc zero) a b c d = absurd (b refl)
+other-kind (suc (suc zero)) a b c d = absurd (c refl)
+other-kind (suc (suc (suc zero))) a b c d = absurd (d refl)
+other-kind (suc (suc (suc (suc k)))) a b c d = refl
 
 -- a kind and a radix code that are known are those of the tables
 module _ (h : Header) (known : Bool) (codes : known ≡ true → h .code ≤ 3) where
-  pub known-header : unknown-kind known h ≡ false → (h .kind ≤ 2) × (h .code ≤ 3)
+  pub known-header : unknown-kind known h ≡ false → (h .kind ≤ 3) × (h .code ≤ 3)
   known-header e =
       let k = neither (is-unused (kind-of (h .kind))) (not known) (rw e tt) in
-      (ltb-false 2 (h .kind) (unused-is (h .kind) ∙ k .0), codes (not-false known (k .1)))
+      (ltb-false 3 (h .kind) (unused-is (h .kind) ∙ k .0), codes (not-false known (k .1)))
 
 -- ---- `known` is the test of a radix code against the table's last
 module _ (h : Header) (known : Bool) (codes : known ≡ leb (h .code) 3) where
@@ -78,7 +80,7 @@ module _ (h : Header) (known : Bool) (codes : known ≡ leb (h .code) 3) where
 
   limits-checks : Limits h → None (header-checks-knowing known h)
   limits-checks l =
-      also (both-fail _ _ (sym (unused-is (h .kind)) ∙ le-ltb 2 (h .kind) (l .kind-most)) (ap not (codes ∙ le-leb (h .code) 3 (l .code-most))))
+      also (both-fail _ _ (sym (unused-is (h .kind)) ∙ le-ltb 3 (h .kind) (l .kind-most)) (ap not (codes ∙ le-leb (h .code) 3 (l .code-most))))
       (also (both-fail _ _ (le-ltb (h .n) 1 (l .order-least)) (le-ltb 16 (h .n) (l .order-most)))
       (also (both-fail _ _ (le-ltb (h .p) (radix (h .code) / 2) (l .digit-least)) (le-ltb (radix (h .code) - 1) (h .p) (l .digit-most)))
       (also (both-fail _ _ (le-ltb (h .f) 4 (l .fraction-least)) (le-ltb 40 (h .f) (l .fraction-most)))
@@ -114,6 +116,9 @@ trace-read-limits h = read-limits-when h (trace-code (h .code)) refl
 -- ---- what the limits give as plain numbers
 module _ (h : Header) where
   module _ (l : Limits h) where
+    pub order-within : (1 ≤ h .n) × (h .n ≤ 16)
+    order-within = (l .order-least, l .order-most)
+
     pub radix-most : radix (h .code) ≤ 16
     radix-most = pow-mono {i = digit-bits (h .code)} {j = 4} (omega (arith, l .code-most))
 
@@ -226,10 +231,12 @@ pub count-most : (kind : Kind) (n : ℕ) → n ≤ 16 → count-of kind n ≤ mo
 count-most polynomial n h = omega arith
 count-most rational n h = omega arith
 count-most system n h = let more : n + 1 ≤ 17 = omega arith in omega (arith, mul-le-mul h more)
+count-most quotients n h = omega arith
 count-most unused n h = omega arith
 
-pub count-least : (k n : ℕ) → k ≤ 2 → 1 ≤ n → 0 < count-of (kind-of k) n
+pub count-least : (k n : ℕ) → k ≤ 3 → 1 ≤ n → 0 < count-of (kind-of k) n
 count-least zero n l h = omega arith
 count-least (suc zero) n l h = omega arith
 count-least (suc (suc zero)) n l h = omega (arith, mul-le-mul h h)
-count-least (suc (suc (suc k))) n l h = absurd (omega arith)
+count-least (suc (suc (suc zero))) n l h = omega arith
+count-least (suc (suc (suc (suc k)))) n l h = absurd (omega arith)

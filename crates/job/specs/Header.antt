@@ -34,8 +34,8 @@ frame-code code = leb code 3
 abbrev pub trace-code : ℕ → Bool
 trace-code code = leb code 3
 
--- 2: a kind past its table, or a radix code that is not known to the call. In a frame both fields have two
--- bits, so that only kind 3 is refused.
+-- 2: a kind past its table, or a radix code that is not known to the call. In a frame or a trace both fields
+-- have two bits, which hold no number past the tables: then nothing is refused by it.
 abbrev pub unknown-kind : Bool → Header → Bool
 unknown-kind known h = is-unused (kind-of (h .kind)) || not known
 
@@ -94,7 +94,7 @@ zero-header = record { kind = 0; code = 0; p = 0; f = 0; n = 0; m = 0 }
 -- ---- the limits as facts on the header's numbers
 
 pub record Limits (h : Header) : Type 0 where
-  pub kind-most : h .kind ≤ 2
+  pub kind-most : h .kind ≤ 3
   pub code-most : h .code ≤ 3
   pub order-least : 1 ≤ h .n
   pub order-most : h .n ≤ 16

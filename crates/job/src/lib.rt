@@ -36,8 +36,8 @@ pub const STEPS: usize = 60;
 // The most numbers of a job: a system's 16 rows, each with its right-hand side.
 pub const NUMBERS: usize = ROWS * (ROWS + 1);
 
-// The header of a job frame, with the order n as a number from 1: kind (0 polynomial, 1 rational, 2 system),
-// radix code, largest digit p, fraction bits f, order n, digits m.
+// The header of a job frame, with the order n as a number from 1: kind (0 polynomial, 1 rational, 2 system,
+// 3 sum of quotients), radix code, largest digit p, fraction bits f, order n, digits m.
 pub struct Header {
     pub kind: usize,
     pub code: usize,
@@ -95,7 +95,7 @@ pub fn radix_by_shift(code: usize) -> usize
 
 // How many numbers follow the header.
 pub fn count(h: Header) -> usize
-    requires { ⌜ h .n ≤ 16 ⌝ }
+    requires { ⌜ (1 ≤ h .n) × (h .n ≤ 16) ⌝ }
     ensures { λ r. ⌜ r ≡ count h ⌝ }
 {
     if h.kind == 0 {
@@ -106,6 +106,9 @@ pub fn count(h: Header) -> usize
     }
     if h.kind == 2 {
         return h.n * (h.n + 1);
+    }
+    if h.kind == 3 {
+        return 3 * h.n - 2;
     }
     0
 }
@@ -203,7 +206,7 @@ fn trace_code(code: usize) -> bool
 fn unknown_kind(h: Header, known: bool) -> bool
     ensures { λ r. ⌜ r ≡ unknown-kind known h ⌝ }
 {
-    if 2 < h.kind {
+    if 3 < h.kind {
         return true;
     }
     !known

@@ -75,7 +75,7 @@ fn random_header(seed: u64) -> Header {
     let e = next(d);
     let f = next(e);
     Header {
-        kind: small(a, 4),
+        kind: small(a, 5),
         code: small(b, 5),
         p: small(c, 17),
         f: small(d, 42),
@@ -136,6 +136,9 @@ fn changed_header(h: Header, which: u64, x: u64) -> Header {
     if which == 3 {
         t.p = small(x, 3);
     }
+    if which == 11 {
+        t.kind = small(x, 6);
+    }
     t
 }
 
@@ -173,7 +176,7 @@ fn changed_job(seed: u64) -> State {
     let a = next(seed);
     let b = next(a);
     let mut s = job_of_either(a / 16 % 2, (b >> 32) % 7);
-    let which = a % 12;
+    let which = a % 13;
     let h = changed_header(s.header, which, b);
     s.header = h;
     if which == 4 {

@@ -5,3 +5,4 @@ pub mod Searches
 pub mod Numbers
 pub mod Arrays
 pub mod Setup
+pub mod Quotients

@@ -3,7 +3,7 @@
 use mathlib.Core.Path.{_≡_, refl, ap, _∙_}
 use mathlib.Core.Bool.{cond}
 use mathlib.Core.List.{List}
-use Prim.Native.Nat.{ℕ, zero, suc, _+_, _*_, _<_, _≤_, _^_}
+use Prim.Native.Nat.{ℕ, zero, suc, _+_, _*_, _-_, _<_, _≤_, _^_}
 use native.Mathlib.Nat.{mul-le-mul-right}
 use native.Mathlib.Omega.{arith}
 use lib.Dec.{eqb}
@@ -15,21 +15,22 @@ use mir.Facts.{toZ-ofZ}
 use Rattle.integers.specs.Sum.{Within}
 use Rattle.integers.specs.Flat.{flat-matrix}
 use Rattle.integers.proofs.Machine.{machs, machine-eq}
-use Rattle.job.specs.Kind.{Kind, system, kind-of, count-of, most-numbers}
+use Rattle.job.specs.Kind.{Kind, system, quotients, kind-of, count-of, most-numbers}
 use Rattle.job.proofs.Limits.{count-most}
 use Rattle.system.specs.Inner.{Numbers}
-use Rattle.system.specs.System.{sent, argument, denominator, no-denominator, curve-entry, system-entry, matrix, right-place, right-side}
+use Rattle.system.specs.System.{sent, argument, denominator, no-denominator, curve-entry, system-entry, coefficient, subtrahend, quotients-entry, matrix, right-place, right-side}
 
--- a kind of the table that is none of the curves is a system
-pub system-kind : (k : ℕ) → k ≤ 2 → (k ≡ 0 → ⊥) → (k ≡ 1 → ⊥) → k ≡ 2
-system-kind zero l a b = absurd (a refl)
-system-kind (suc zero) l a b = absurd (b refl)
-system-kind (suc (suc k)) l a b = omega arith
+-- a kind of the table that is none of the first three is a sum of quotients
+pub last-kind : (k : ℕ) → k ≤ 3 → (k ≡ 0 → ⊥) → (k ≡ 1 → ⊥) → (k ≡ 2 → ⊥) → k ≡ 3
+last-kind zero l a b c = absurd (a refl)
+last-kind (suc zero) l a b c = absurd (b refl)
+last-kind (suc (suc zero)) l a b c = absurd (c refl)
+last-kind (suc (suc (suc k))) l a b c = omega arith
 
 -- ---- a number as it is read
 
 module _ {a : ℤ} (w : Within a (2 ^ 41)) where
-  number-is : toZ w64 (ofZ w64 a) ≡ a
+  pub number-is : toZ w64 (ofZ w64 a) ≡ a
   number-is = machine-eq (search machs depth 9) tt refl
 
   pub number-within : Within (toZ w64 (ofZ w64 a)) (2 ^ 41)
@@ -50,18 +51,35 @@ right-place-curve zero n i h = refl
 right-place-curve (suc zero) n i h = refl
 right-place-curve (suc (suc k)) n i h = absurd (omega arith)
 
-pub right-place-system : (k n i : ℕ) → k ≤ 2 → 2 ≤ k → i * (n + 1) + n ≡ right-place (kind-of k) n i
-right-place-system k n i l h = let e : k ≡ 2 = omega arith in rw e refl
+pub right-place-system : (k n i : ℕ) → k ≡ 2 → i * (n + 1) + n ≡ right-place (kind-of k) n i
+right-place-system k n i e = rw e refl
+
+-- of the kind that is left, in row 0 and in every other row
+module _ (k n i : ℕ) (l : k ≤ 3) (h : 2 ≤ k) (other : k ≡ 2 → ⊥) where
+  third : k ≡ 3
+  third = last-kind k l (λ e. omega arith) (λ e. omega arith) other
+
+  pub right-place-first : i ≡ 0 → 0 ≡ right-place (kind-of k) n i
+  right-place-first e = rw (third, e) refl
+
+  pub right-place-next : (i ≡ 0 → ⊥) → 3 * i - 1 ≡ right-place (kind-of k) n i
+  right-place-next z = rw third (next i z)
+    where
+      next : (i : ℕ) → (i ≡ 0 → ⊥) → 3 * i - 1 ≡ right-place quotients n i
+      next zero z = absurd (z refl)
+      next (suc i) z = refl
 
 -- entry j of row i of a system, the right side being entry n
 pub system-place : (n i j : ℕ) → i < n → j ≤ n → i * (n + 1) + j < n * (n + 1)
 system-place n i j h l = omega (arith, mul-le-mul-right (n + 1) h)
 
-pub right-place-most : (k n i : ℕ) → k ≤ 2 → i < n → right-place (kind-of k) n i < count-of (kind-of k) n
+pub right-place-most : (k n i : ℕ) → k ≤ 3 → i < n → right-place (kind-of k) n i < count-of (kind-of k) n
 right-place-most zero n i l h = omega arith
 right-place-most (suc zero) n i l h = omega arith
 right-place-most (suc (suc zero)) n i l h = system-place n i n h (omega arith)
-right-place-most (suc (suc (suc k))) n i l h = absurd (omega arith)
+right-place-most (suc (suc (suc zero))) n zero l h = omega arith
+right-place-most (suc (suc (suc zero))) n (suc i) l h = omega arith
+right-place-most (suc (suc (suc (suc k)))) n i l h = absurd (omega arith)
 
 pub place-in-numbers : (n i j : ℕ) → i < n → j ≤ n → n ≤ 16 → i * (n + 1) + j < most-numbers
 place-in-numbers n i j h l m = omega (arith, system-place n i j h l, count-most system n m)
@@ -94,3 +112,7 @@ module _ (kind n u : ℕ) (v g : List ℤ) where
   pub system-is : (w : ℕ) → kind ≡ 2 → w ≡ u → g ≡ flat-matrix n (system-entry w n v) → g ≡ flat-matrix n (matrix (kind-of kind) n u v)
   unfolding matrix
   system-is w e f h = rw e (rw f at h)
+
+  pub quotients-is : kind ≡ 3 → g ≡ flat-matrix n (quotients-entry (coefficient v) (subtrahend v)) → g ≡ flat-matrix n (matrix (kind-of kind) n u v)
+  unfolding matrix
+  quotients-is e h = rw e h

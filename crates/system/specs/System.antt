@@ -2,20 +2,20 @@
 -- right-hand sides b, of each kind, from the numbers as they are sent. All in units of 1/u, u being 2^f.
 -- Rows, columns and coefficients count from 0, so document 01's row i is row i - 1 here.
 use mathlib.Core.{Bool.cond, List.List}
-use Prim.Native.Nat.{ℕ, zero, suc, _+_, _*_}
+use Prim.Native.Nat.{ℕ, zero, suc, _+_, _*_, _-_}
 use lib.{Dec.eqb, IntN.ℤ, IntN.pos, IntN.negℤ, IntN._-ℤ_, ListN.getD}
-use Rattle.job.specs.{Header.unit, Kind.Kind, Kind.polynomial, Kind.rational, Kind.system, Kind.unused, Kind.kind-of, declared.Header.Header}
+use Rattle.job.specs.{Header.unit, Kind.Kind, Kind.polynomial, Kind.rational, Kind.system, Kind.quotients, Kind.unused, Kind.kind-of, declared.Header.Header}
 
 -- the i-th number sent
 abbrev pub sent : List ℤ → ℕ → ℤ
 sent v i = getD v i (pos 0)
 
--- ---- a curve: x, then p_0 to p_(n-1), then for a rational curve q_1 to q_(n-1)
-
--- the coefficients of the denominator other than q_0, which is 1 and is not sent
+-- numbers that count from 1, with 0 in the place of the first
 abbrev pub past-first : (ℕ → ℤ) → ℕ → ℤ
 past-first q zero = pos 0
 past-first q (suc i) = q (suc i)
+
+-- ---- a curve: x, then p_0 to p_(n-1), then for a rational curve q_1 to q_(n-1); q_0 is 1 and is not sent
 
 -- +x in the column after the diagonal, and -q_i in the first column of every row but the first. The last row
 -- has no column for x, so at n = 1 the argument has no effect.
@@ -43,6 +43,20 @@ no-denominator i = pos 0
 unfoldable pub system-entry : (u n : ℕ) (v : List ℤ) (i j : ℕ) → ℤ
 system-entry u n v i j = cond (eqb i j) (pos u) (pos 0) -ℤ sent v (i * (n + 1) + j)
 
+-- ---- a sum of quotients, c_0 + Σ c_i a_i / (1 - b_i): c_0, then c_i, a_i and b_i together for each i from 1
+
+-- c_i and b_i, for i from 1; c_0 and the a_i are the right-hand sides
+abbrev pub coefficient : List ℤ → ℕ → ℤ
+coefficient v i = sent v (3 * i - 2)
+
+abbrev pub subtrahend : List ℤ → ℕ → ℤ
+subtrahend v i = sent v (3 * i)
+
+-- c_j in the first row, in every column but the first, and b_i on the diagonal of every other row
+unfoldable pub quotients-entry : (c b : ℕ → ℤ) (i j : ℕ) → ℤ
+quotients-entry c b zero j = past-first c j
+quotients-entry c b (suc i) j = cond (eqb j (suc i)) (b (suc i)) (pos 0)
+
 -- ---- by the kind
 
 -- the entry of G in row i and column j
@@ -50,6 +64,7 @@ unfoldable pub matrix : Kind → (n u : ℕ) (v : List ℤ) (i j : ℕ) → ℤ
 matrix polynomial n u v = curve-entry (argument v) no-denominator
 matrix rational n u v = curve-entry (argument v) (denominator n v)
 matrix system n u v = system-entry u n v
+matrix quotients n u v = quotients-entry (coefficient v) (subtrahend v)
 matrix unused n u v = λ i j. pos 0
 
 -- where among the numbers the right-hand side of row i stands
@@ -57,6 +72,8 @@ abbrev pub right-place : Kind → ℕ → ℕ → ℕ
 right-place polynomial n i = 1 + i
 right-place rational n i = 1 + i
 right-place system n i = i * (n + 1) + n
+right-place quotients n zero = 0
+right-place quotients n (suc i) = 3 * suc i - 1
 right-place unused n i = 0
 
 -- the right-hand side of row i

@@ -16,7 +16,7 @@ ghost use Rattle.job.specs.Kind.{kind-of};
 ghost use Rattle.job.specs.Rules.{ScaleLimits};
 ghost use Rattle.system.specs.Rows.{first-row, heavy-row, large-residual};
 ghost use Rattle.system.specs.Inner.{largest-light, residual-most, Numbers, too-heavy, too-large};
-ghost use Rattle.system.specs.System.{argument, denominator, no-denominator, curve-entry, system-entry, matrix-of, right-place, right-side-of};
+ghost use Rattle.system.specs.System.{argument, denominator, no-denominator, curve-entry, system-entry, coefficient, subtrahend, quotients-entry, matrix-of, right-place, right-side-of};
 use job::Header;
 use job::ROWS;
 
@@ -98,6 +98,22 @@ fn system_matrix(n: usize, u: u64, v: &[i64]) -> [i64; ENTRIES]
     g
 }
 
+// The matrix of a sum of quotients: in every column but the first, c in row 0 and b on the diagonal. The
+// matrix of order i has no number of column i, so each turn leaves the matrix of order i + 1.
+fn quotients_matrix(n: usize, v: &[i64]) -> [i64; ENTRIES]
+    requires { ⌜ (1 ≤ n) × (n ≤ 16) × Numbers (3 * n - 2) (now v) ⌝ }
+    ensures { λ r. ⌜ r ≡ flat-matrix n (quotients-entry (coefficient (now (v .entry))) (subtrahend (now (v .entry)))) ⌝ }
+{
+    let mut g = [0i64; ENTRIES];
+    let mut i: usize = 1;
+    while i < n {
+        g[i] = v[3 * i - 2];
+        g[16 * i + i] = v[3 * i];
+        i += 1;
+    }
+    g
+}
+
 // The matrix G of a job, from the numbers as they are sent.
 pub fn matrix(h: Header, v: &[i64]) -> [i64; ENTRIES]
     requires { ⌜ Limits h × Numbers (count h) (now v) ⌝ }
@@ -109,15 +125,24 @@ pub fn matrix(h: Header, v: &[i64]) -> [i64; ENTRIES]
     if h.kind == 1 {
         return rational_matrix(h.n, v);
     }
-    system_matrix(h.n, integers::pow2(h.f), v)
+    if h.kind == 2 {
+        return system_matrix(h.n, integers::pow2(h.f), v);
+    }
+    quotients_matrix(h.n, v)
 }
 
 // Where among the numbers the right-hand side of row i stands.
 fn right_place(kind: usize, n: usize, i: usize) -> usize
-    requires { ⌜ (kind ≤ 2) × (i < n) × (n ≤ 16) ⌝ }
+    requires { ⌜ (kind ≤ 3) × (i < n) × (n ≤ 16) ⌝ }
     ensures { λ r. ⌜ r ≡ right-place (kind-of kind) n i ⌝ }
 {
-    if kind < 2 { 1 + i } else { i * (n + 1) + n }
+    if kind < 2 {
+        return 1 + i;
+    }
+    if kind == 2 {
+        return i * (n + 1) + n;
+    }
+    if i == 0 { 0 } else { 3 * i - 1 }
 }
 
 // The right-hand sides of a job, from the numbers as they are sent.

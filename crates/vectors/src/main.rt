@@ -134,7 +134,7 @@ fn show_trace(s: &[u8]) {
 
 // Whether the frame of a header and of its numbers, which begin the list, has the bytes s.
 fn writes_frame(h: Header, list: &[i64], s: &[u8]) -> bool {
-    if ROWS < h.n {
+    if h.n < 1 || ROWS < h.n {
         return false;
     }
     let n = job::count(h);

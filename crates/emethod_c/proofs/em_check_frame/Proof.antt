@@ -1,5 +1,5 @@
 use borrow.Author.Needs.{needs}
-use Rattle.emethod_c.proofs.Jobs.{check-refused, check-accepted, order-most}
+use Rattle.emethod_c.proofs.Jobs.{check-refused, check-accepted, order-kept}
 use Rattle.emethod_c.proofs.em_check_frame.Statement.{statement}
 use Rattle.emethod_c.proofs.em_check_frame.Tie as tie
 
@@ -17,7 +17,7 @@ returns c =
 count-requires : tie.Need-count-requires
 count-requires c κs =
     let l = c .before .before in
-    order-most (l .before .before .args .frame .now) (l .load .result) (l .load .ensures) (c .if1 .left)
+    order-kept (l .before .before .args .frame .now) (l .load .result) (l .load .ensures) (c .if1 .left)
 
 scaled-answer-requires-2 : tie.Need-scaled-answer-requires-2
 scaled-answer-requires-2 c κs = search needs

@@ -1,5 +1,6 @@
 -- Refused by 1 to 7, or by 8 and 15, or else the fresh state of the job.
 use borrow.Author.Needs.{needs}
+use Rattle.job.proofs.Limits.{order-within}
 use Rattle.frame.proofs.ReadJob.{Unpacked, unpack-limits, unpack-gives, part-long, part-within, part-small}
 use Rattle.evaluator.proofs.Loading.{load-short, load-weighs, load-refuses, load-makes}
 use Rattle.evaluator.proofs.load.Statement.{statement}
@@ -23,7 +24,7 @@ returns : tie.Need-returns
 returns c = load-short _ _ (c .before .before .before .before .unpack .ensures) (c .before .if1 .taken) (c .refused .ensures)
 
 count-requires : tie.Need-count-requires
-count-requires c κs = unpack-limits _ _ (c .before .before .before .before .unpack .ensures) (c .before .if1 .left) .order-most
+count-requires c κs = order-within _ (unpack-limits _ _ (c .before .before .before .before .unpack .ensures) (c .before .if1 .left))
 
 array-share-prefix-v : tie.Need-array-share-prefix-v
 array-share-prefix-v c = part-within (unpacked c)

@@ -1,5 +1,6 @@
 -- Refused by 1 to 7, by 8 and 15, or by 23, or else the numbers go to the list.
 use borrow.Author.Needs.{needs}
+use Rattle.job.proofs.Limits.{order-within}
 use Rattle.frame.proofs.ReadJob.{Unpacked, unpack-limits, unpack-gives, part-long, part-within, part-small}
 use Rattle.frame.proofs.Reader.{layout-decides, frame-refuses, list-decides, none-decides}
 use Rattle.frame.proofs.read_frame.Statement.{statement}
@@ -20,7 +21,7 @@ returns : tie.Need-returns
 returns c = layout-decides _ _ _ (c .before .before .before .unpack .ensures) (c .if1 .taken)
 
 count-requires : tie.Need-count-requires
-count-requires c κs = unpack-limits _ _ (c .before .before .before .before .unpack .ensures) (c .before .if1 .left) .order-most
+count-requires c κs = order-within _ (unpack-limits _ _ (c .before .before .before .before .unpack .ensures) (c .before .if1 .left))
 
 array-share-prefix-v : tie.Need-array-share-prefix-v
 array-share-prefix-v c = part-within (unpacked c)

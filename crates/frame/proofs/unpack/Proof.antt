@@ -1,6 +1,7 @@
 -- Refused by 1 to 7, or else there is room for the numbers.
 use borrow.Author.Needs.{needs}
 use native.Mathlib.Omega.{arith}
+use Rattle.job.proofs.Limits.{order-within}
 use Rattle.frame.proofs.Unpacking.{LayoutRead, layout-read, layout-limits, unpack-refused, unpack-long, unpack-room, unpack-accepted}
 use Rattle.frame.proofs.unpack.Statement.{statement}
 use Rattle.frame.proofs.unpack.Tie as tie
@@ -27,7 +28,7 @@ add-read-numbers : tie.Need-add-read-numbers
 add-read-numbers c = omega (arith, layout-limits (read (c .before)) .fraction-most)
 
 count-requires : tie.Need-count-requires
-count-requires c κs = layout-limits (read (c .before)) .order-most
+count-requires c κs = order-within _ (layout-limits (read (c .before)))
 
 read-numbers-requires : tie.Need-read-numbers-requires
 read-numbers-requires c κs =

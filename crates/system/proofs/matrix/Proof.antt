@@ -4,7 +4,7 @@ use native.Mathlib.Omega.{arith}
 use lib.Pow.{pow-mono}
 use borrow.Author.Needs.{needs}
 use Rattle.job.specs.Header.{unit}
-use Rattle.system.proofs.Numbers.{system-kind, argument-read, polynomial-is, rational-is, system-is}
+use Rattle.system.proofs.Numbers.{last-kind, argument-read, polynomial-is, rational-is, system-is, quotients-is}
 use Rattle.system.proofs.matrix.Statement.{statement}
 use Rattle.system.proofs.matrix.Tie as tie
 
@@ -31,23 +31,33 @@ returns-2 c =
     rational-is (st .args .h .kind) (st .args .h .n) (unit (st .args .h)) (st .args .v .now) _ (c .before .if2 .taken) (c .rational-matrix .ensures)
 
 pow2-requires : tie.Need-pow2-requires
-pow2-requires c κs = omega (arith, c .before .before .before .before .pre .0 .fraction-most)
-
--- the third kind is all that is left
-third : (c : tie.After-pow2) → c .before .before .before .before .before .args .h .kind ≡ 2
-third c =
-    let st = c .before .before .before .before .before in
-    system-kind (st .args .h .kind) (st .pre .0 .kind-most) (c .before .before .before .if1 .left) (c .before .if2 .left)
+pow2-requires c κs = omega (arith, c .before .before .before .before .before .before .pre .0 .fraction-most)
 
 system-matrix-requires : tie.Need-system-matrix-requires
 system-matrix-requires c κs =
-    let st = c .before .before .before .before .before in
-    (st .pre .0 .order-most, rw (c .pow2 .ensures) (pow-mono {j = 40} (st .pre .0 .fraction-most)), rw (third c) at (st .pre .1))
+    let st = c .before .before .before .before .before .before .before in
+    (st .pre .0 .order-most, rw (c .pow2 .ensures) (pow-mono {j = 40} (st .pre .0 .fraction-most)), rw (c .before .if3 .taken) at (st .pre .1))
 
 returns-3 : tie.Need-returns-3
 returns-3 c =
+    let st = c .before .before .before .before .before .before .before .before in
+    system-is (st .args .h .kind) (st .args .h .n) (unit (st .args .h)) (st .args .v .now) _ (c .before .pow2 .result) (c .before .before .if3 .taken) (c .before .pow2 .ensures) (c .system-matrix .ensures)
+
+-- the last kind is all that is left
+last : (c : tie.Else3) → c .before .before .before .before .before .before .args .h .kind ≡ 3
+last c =
     let st = c .before .before .before .before .before .before in
-    system-is (st .args .h .kind) (st .args .h .n) (unit (st .args .h)) (st .args .v .now) _ (c .before .pow2 .result) (third (c .before)) (c .before .pow2 .ensures) (c .system-matrix .ensures)
+    last-kind (st .args .h .kind) (st .pre .0 .kind-most) (c .before .before .before .before .if1 .left) (c .before .before .if2 .left) (c .if3 .left)
+
+quotients-matrix-requires : tie.Need-quotients-matrix-requires
+quotients-matrix-requires c κs =
+    let st = c .before .before .before .before .before .before in
+    (st .pre .0 .order-least, st .pre .0 .order-most, rw (last c) at (st .pre .1))
+
+returns-4 : tie.Need-returns-4
+returns-4 c =
+    let st = c .before .before .before .before .before .before .before in
+    quotients-is (st .args .h .kind) (st .args .h .n) (unit (st .args .h)) (st .args .v .now) _ (last (c .before)) (c .quotients-matrix .ensures)
 
 pub matrix-spec : {M : Type 1} → statement M
 matrix-spec =
@@ -60,4 +70,6 @@ matrix-spec =
     returns-2
     pow2-requires
     system-matrix-requires
-    returns-3)
+    returns-3
+    quotients-matrix-requires
+    returns-4)
