@@ -143,8 +143,8 @@ fn push_line(text: &mut String, items: &[i64]) {
     text.push('\n');
 }
 
-/// The cases A to H with the frames that load in place of heavy ones, and the edges of the estimate, of m, of
-/// the scale and of a trace's steps, by one side. Gives how many there are.
+/// The cases A to H with the frames that load in place of heavy ones, sums of quotients, and the edges of the
+/// estimate, of m, of the scale and of a trace's steps, by one side. Gives how many there are.
 pub fn run<S: Side>() -> Result<usize, String> {
     let mut done = 0;
     let mut case = |name: &str, right: bool| {
@@ -188,7 +188,10 @@ pub fn run<S: Side>() -> Result<usize, String> {
     // Sums of quotients: c_0, then c, a and b of each in turn. The value of the first is 9/28.
     let quotients = |n, numbers: &[i64]| frame(3, 2, 1, n, 4, numbers);
     let q = quotients(2, &[4, 2, 8, 2]);
-    case("quotients, frame", q == [0xC1, 0x10, 0x44, 0x10, 0x22, 0x02])?;
+    case(
+        "quotients, frame",
+        q == [0xC1, 0x10, 0x44, 0x10, 0x22, 0x02],
+    )?;
     case("quotients, text", frame_text::<S>(&q) == Q_TEXT)?;
     case("quotients, c_0 alone", loads(&quotients(1, &[8]), 0))?;
     let heavy_sum = quotients(3, &[4, 2, 8, 2, -2, 8, 2]);

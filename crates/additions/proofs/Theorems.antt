@@ -9,6 +9,7 @@ use Rattle.integers.specs.Sum.{total}
 use Rattle.integers.proofs.Sum.{total-head, total-none, total-one, total-le}
 use Rattle.job.specs.Kind.{polynomial, rational, system, quotients, unused}
 use Rattle.system.specs.System.{argument, denominator, no-denominator, curve-entry, coefficient, subtrahend, quotients-entry, matrix}
+use Rattle.system.proofs.Quotients.{off-diagonal}
 use Rattle.additions.specs.Additions.{nonzero, entries, FirstStepNone, AdditionsMost, EntriesMost}
 use Rattle.additions.proofs.Laws.{nonzero-most, column-entries, entries-by-columns, entries-square, additions-zero, additions-after-first}
 
@@ -83,11 +84,10 @@ module _ (m : ℕ) (c b : ℕ → ℤ) where
 
   -- a later row has one, on the diagonal
   later-row : (i : ℕ) → i < m → row (suc i) ≤ 1
-  unfolding quotients-entry
   later-row i l =
       omega (
         arith,
-        total-one (suc m) (suc i) (λ j. nonzero (quotients-entry c b (suc i) j)) (omega arith) (λ j k h. rw (ne-eqb j (suc i) h)),
+        total-one (suc m) (suc i) (λ j. nonzero (quotients-entry c b (suc i) j)) (omega arith) (λ j k h. rw (off-diagonal c b (suc i) j (omega arith) h)),
         nonzero-most (quotients-entry c b (suc i) (suc i)),
       )
 

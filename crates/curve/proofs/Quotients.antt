@@ -4,7 +4,6 @@ use mathlib.Core.Path.{_≡_, refl, sym, ap, _∙_}
 use mathlib.Core.List.{[], _∷_}
 use Prim.Native.Nat.{ℕ, zero, suc, _*_, _<_, _≤_}
 use native.Mathlib.Omega.{arith}
-use borrow.Author.Tests.{eq-eqb, ne-eqb}
 use lib.IntN.{ℤ, pos, negℤ, natAbs, _+ℤ_, _-ℤ_, _*ℤ_, zero-*ℤ}
 use lib.Signed.{_<ℤ_}
 use Rattle.integers.specs.Sum.{sum, dot, product, product-without}
@@ -16,6 +15,7 @@ use Rattle.integers.proofs.Parts.{parts-add}
 use Rattle.integers.proofs.Product.{entry-le-weight}
 use Rattle.integers.proofs.Sum.{sum-ext, sum-one, sum-scale}
 use Rattle.system.specs.System.{past-first, quotients-entry}
+use Rattle.system.proofs.Quotients.{diagonal, off-diagonal}
 use Rattle.recurrence.specs.Recurrence.{Solves}
 use Rattle.curve.specs.Curve.{CurveValue, ShortRows, QuotientsValue}
 use Rattle.curve.specs.Quotients.{divisor, quotients-over, quotients-under}
@@ -23,14 +23,6 @@ use Rattle.curve.specs.Quotients.{divisor, quotients-over, quotients-und
 -- ---- the rows, with a vector
 
 module _ (c b : ℕ → ℤ) where
-  entry-diagonal : (i : ℕ) → quotients-entry c b (suc i) (suc i) ≡ b (suc i)
-  unfolding quotients-entry
-  entry-diagonal i = rw (eq-eqb (suc i) (suc i) refl)
-
-  entry-other : (i j : ℕ) → (j ≡ suc i → ⊥) → quotients-entry c b (suc i) j ≡ pos 0
-  unfolding quotients-entry
-  entry-other i j h = rw (ne-eqb j (suc i) h)
-
   first-product : (n : ℕ) (N : ℕ → ℤ) → dot n (quotients-entry c b 0) N ≡ sum n (λ j. past-first c j *ℤ N j)
   unfolding dot quotients-entry
   first-product n N = refl
@@ -38,8 +30,8 @@ module _ (c b : ℕ → ℤ) where
   row-product : (n i : ℕ) (N : ℕ → ℤ) → suc i < n → dot n (quotients-entry c b (suc i)) N ≡ b (suc i) *ℤ N (suc i)
   unfolding dot
   row-product n i N l =
-      sum-one n (suc i) (λ j. quotients-entry c b (suc i) j *ℤ N j) l (λ j m h. rw (entry-other i j h, zero-*ℤ (N j)))
-      ∙ rw (entry-diagonal i)
+      sum-one n (suc i) (λ j. quotients-entry c b (suc i) j *ℤ N j) l (λ j m h. rw (off-diagonal c b (suc i) j (omega arith) h, zero-*ℤ (N j)))
+      ∙ rw (diagonal c b i)
 
 -- ---- the value
 
@@ -140,7 +132,7 @@ module _ (u : ℕ) (c a b : ℕ → ℤ) (n : ℕ) where
     divisor-positive zero l = omega zarith
     divisor-positive (suc i) l =
         above (b (suc i))
-        (omega (arith, short (suc i) l, entry-le-weight n (quotients-entry c b (suc i)) (suc i) l, ap natAbs (entry-diagonal c b i)))
+        (omega (arith, short (suc i) l, entry-le-weight n (quotients-entry c b (suc i)) (suc i) l, ap natAbs (diagonal c b i)))
       where
         above : (y : ℤ) → 4 * natAbs y ≤ u → pos 0 <ℤ (pos u -ℤ y)
         above y h = omega (zarith, abs-parts (negℤ y), abs-neg y, parts-add (pos u) (negℤ y))

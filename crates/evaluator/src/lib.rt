@@ -35,6 +35,7 @@ use job::Header;
 use job::ROWS;
 use state::DIGITS;
 use state::State;
+use system::ENTRIES;
 
 // What load answers: a refusal number, 0 where there is none, the row given with it, and the state.
 pub struct Loaded {
@@ -77,7 +78,8 @@ pub fn load(s: &[u8]) -> Loaded
     let n = job::count(h);
     let numbers = &v[..n];
     let z = system::right_sides(h, numbers);
-    let g = system::matrix(h, numbers);
+    let mut g = [0i64; ENTRIES];
+    system::place_matrix(&mut g, h, numbers);
     let w = frame::weigh(&g, &z, h);
     if 0 < w.refusal {
         return refused(w.refusal, w.row);

@@ -164,7 +164,8 @@ fn system_verdict(h: Header, v: &[i64]) -> Verdict
     ensures { λ r. ⌜ r ≡ checks-verdict (number-checks h (now (v .entry))) h (now (v .entry)) ⌝ }
 {
     let z = system::right_sides(h, v);
-    let g = system::matrix(h, v);
+    let mut g = [0i64; ENTRIES];
+    system::place_matrix(&mut g, h, v);
     let w = weigh(&g, &z, h);
     Verdict {
         refusal: w.refusal,

@@ -2,7 +2,7 @@
 use mathlib.Core.Path.{_≡_, refl, _∙_}
 use mathlib.Core.List.{List}
 use mathlib.Core.Logic.{_⊎_, inl, inr}
-use Prim.Native.Nat.{ℕ, zero, suc, _+_, _<_, _≤_}
+use Prim.Native.Nat.{ℕ, zero, suc, _<_, _≤_}
 use native.Mathlib.Omega.{arith}
 use lib.IntN.{ℤ, pos}
 use lib.ListN.{length, set, length-set}
@@ -28,15 +28,6 @@ pub stores-ext : (g : List ℤ) (place : ℕ → ℕ) (value other : ℕ → ℤ
 unfolding stores
 stores-ext g place value other zero e = refl
 stores-ext g place value other (suc k) e = rw (stores-ext g place value other k (λ t l. e t (omega arith)), e k (omega arith)) refl
-
--- stores and then others are all of them
-pub stores-append : (g : List ℤ) (place : ℕ → ℕ) (value : ℕ → ℤ) (a : ℕ) (place′ : ℕ → ℕ) (value′ : ℕ → ℤ) (b : ℕ) → ((t : ℕ) → t < b → place′ t ≡ place (a + t))
-    → ((t : ℕ) → t < b → value′ t ≡ value (a + t)) → stores (stores g place value a) place′ value′ b ≡ stores g place value (a + b)
-unfolding stores
-stores-append g place value a place′ value′ zero p v = let e : a + 0 ≡ a = omega arith in rw e refl
-stores-append g place value a place′ value′ (suc b) p v =
-    let e : a + suc b ≡ suc (a + b) = omega arith in
-    rw (e, stores-append g place value a place′ value′ b (λ t l. p t (omega arith)) (λ t l. v t (omega arith)), p b (omega arith), v b (omega arith)) refl
 
 -- a place that none of them stores to
 pub stores-other : (g : List ℤ) (place : ℕ → ℕ) (value : ℕ → ℤ) (k m : ℕ) → ((t : ℕ) → t < k → m ≡ place t → ⊥) → at (stores g place value k) m ≡ at g m

@@ -79,7 +79,7 @@ module _ {n : ℕ} {g d given : List ℤ} where
       last = (omega arith, λ i a b. absurd (omega arith))
 
       pub may-add : MayAddColumn g j 0 n (toZ w64 (ofZ w64 x)) s
-      may-add = may-add-next (may .order) (may .sums) l (h .sums) first last x ex
+      may-add = may-add-next (may .order) (may .sums) l (h .sums) x ex last
 
       module _ (e : skipped (at d j) ≡ false) where
         room : to + (n + 1) ≤ length given
@@ -105,7 +105,7 @@ module _ {n : ℕ} {g d given : List ℤ} where
             }
           where
             next : SoFar n (j + 1) g d s₀ s′
-            next = sums-more (may .order) (may .sums) l (h .sums) first last x ex es
+            next = sums-more (may .order) (may .sums) l (h .sums) x ex first last es
 
             words : List ℤ
             words = pos (suc j) ∷ list-from 0 n (running-sum g (at d) (suc j))

@@ -43,8 +43,8 @@ module _ (f : ℕ → ℤ) where
       by-case (inr k) = let same : j ≡ c = omega arith in rw same e
 
 -- every row of a column
-pub from-first : (n : ℕ) (g : List ℤ) (j : ℕ) → Start n g j 0
-from-first n g j = (omega arith, no-zeros (column g j) 0)
+pub from-first : (n : ℕ) (g : List ℤ) (j : ℕ) → j < n → Start n g j 0
+from-first n g j l = (omega arith, no-zeros (column g j) 0)
 
 pub to-last : (n : ℕ) (g : List ℤ) (j : ℕ) → End n g j n
 to-last n g j = (omega arith, no-zeros (column g j) n)

@@ -16,10 +16,10 @@ use Rattle.integers.proofs.Machine.{bounded, machs, machine-eq}
 use Rattle.integers.proofs.Maximum.{le-or-lt}
 use Rattle.integers.proofs.Normal.{solve, polys}
 use Rattle.integers.proofs.Product.{dot-zero, dot-suc, abs-dot, weight-le, entry-le-weight}
-use Rattle.column.specs.Column.{MayAddColumn, column-added}
-use Rattle.column.proofs.Added.{length-column-next, column-next-past, column-next}
+use Rattle.column.specs.Column.{MayAddColumn, column-added, entries-added}
+use Rattle.column.proofs.Added.{Rows, column-next, span-rows, entry-rows}
 use Rattle.integers.specs.Flat.{filled}
-use Rattle.spans.specs.Inner.{row-dot, MaySum, MaySumRows, Start, End, MayBegin, Begun, first-product}
+use Rattle.spans.specs.Inner.{row-dot, MaySum, MaySumRows, Start, End, Next, MayBegin, Begun, first-product}
 use Rattle.integers.proofs.Filled.{length-filled, filled-past, filled-row, at-zeros}
 
 -- ---- what may be summed is small
@@ -112,30 +112,49 @@ module _ {n : ℕ} {g d : List ℤ} (order : n ≤ 16) (h : MaySumRows n g d) wh
       one : (i : ℕ) → entry g i 0 *ℤ at d 0 ≡ dot 1 (entry g i) (at d)
       one i = sym (dot-suc 0 (entry g i) (at d) ∙ rw (dot-zero (entry g i) (at d)) (+ℤ-idl (entry g i 0 *ℤ at d 0)))
 
-  -- one column more: `x` is what `widen` gave of its digit, and `s′` what `add_column` left
-  module _ {j lo hi : ℕ} {s₀ s : List ℤ} (l : j < n) (f : SoFar n j g d s₀ s) (a : Start n g j lo) (b : End n g j hi) (x : ℤ) (ex : x ≡ toZ w8 (ofZ w8 (at d j))) where
+  -- one column more: `x` is what `widen` gave of its digit
+  module _ {j : ℕ} {s₀ s : List ℤ} (l : j < n) (f : SoFar n j g d s₀ s) (x : ℤ) (ex : x ≡ toZ w8 (ofZ w8 (at d j))) where
     digit-is : toZ w64 (ofZ w64 x) ≡ at d j
     digit-is = lent j l x ex
 
-    pub may-add-next : MayAddColumn g j lo hi (toZ w64 (ofZ w64 x)) s
-    may-add-next =
+    room : n ≤ length s
+    room = omega (arith, f .size)
+
+    sum-small : (i : ℕ) → i < n → natAbs (at s i) ≤ 2 ^ 48
+    sum-small i m = rw (f .rows i m) (part-small (h i m) j (omega arith))
+
+    pub may-add-next : {lo hi : ℕ} → End n g j hi → MayAddColumn g j lo hi (toZ w64 (ofZ w64 x)) s
+    may-add-next b =
         record {
           column = omega arith;
           last = omega (arith, b .0);
-          sums = λ i p q. let m : i < n = omega (arith, b .0) in rw (f .rows i m) (part-small (h i m) j (omega arith));
+          sums = λ i p q. sum-small i (omega (arith, b .0));
           entries = λ i p q. entry-small (h i (omega (arith, b .0))) j l;
           digit = rw digit-is (h j l .digits j l);
         }
 
-    pub sums-more : {s′ : List ℤ} → s′ ≡ stores s (λ t. lo + t) (column-added g j lo (toZ w64 (ofZ w64 x)) s) (hi - lo) → SoFar n (j + 1) g d s₀ s′
-    sums-more {s′} e =
-        let k : s′ ≡ stores s (λ t. lo + t) (column-added g j lo (at d j) s) (hi - lo) = rw digit-is at e in
-        let room : n ≤ length s = omega (arith, f .size) in
-        record {
-          size = length-column-next n j lo hi g s s′ (at d) room (b .0) (a .1) (b .1) k ∙ f .size;
-          rows = column-next n j lo hi g s s′ (at d) room (b .0) (a .1) (b .1) k (f .rows);
-          past = λ i m. column-next-past n j lo hi g s s′ (at d) room (b .0) (a .1) (b .1) k i m ∙ f .past i m;
-        }
+    next-so-far : {s′ : List ℤ} → Rows n j g s s′ (at d j) → SoFar n (j + 1) g d s₀ s′
+    next-so-far r = record { size = r .size ∙ f .size; rows = column-next (at d) r (f .rows); past = λ i m. r .past i m ∙ f .past i m }
+
+    -- `s′` is what `add_column` left
+    pub sums-more : {lo hi : ℕ} {s′ : List ℤ} → Start n g j lo → End n g j hi → s′ ≡ stores s (λ t. lo + t) (column-added g j lo (toZ w64 (ofZ w64 x)) s) (hi - lo)
+        → SoFar n (j + 1) g d s₀ s′
+    sums-more {lo} {hi} {s′} a b e = next-so-far (span-rows n j lo hi g s s′ (at d j) room (b .0) (a .1) (b .1) (rw digit-is at e))
+
+    -- the first entry y as it is lent on, and what `add_entries` left
+    module _ {lo next hi : ℕ} {y : ℤ} (a : Start n g j lo) (b : End n g j hi) (c : Next g j lo next) (k : y ≡ entry g lo j) where
+      pub may-add-entries : MayAddColumn g j next hi (toZ w64 (ofZ w64 x)) s × (lo < next) × (lo < 16) × Within (at s lo) (2 ^ 48) × Within y (2 ^ 40)
+      may-add-entries = (
+        may-add-next b,
+        c .0,
+        omega (arith, a .0),
+        record { abs = sum-small lo (a .0) },
+        record { abs = rw k (entry-small (h lo (a .0)) j l) },
+      )
+
+      pub entries-more : {s′ : List ℤ} → s′ ≡ entries-added g y j lo next hi (toZ w64 (ofZ w64 x)) s → SoFar n (j + 1) g d s₀ s′
+      entries-more {s′} e =
+          next-so-far (entry-rows n j lo next hi g s s′ y (at d j) room (a .0) (c .0) (b .0) (a .1) (c .1) (b .1) k (rw digit-is at e))
 
   -- all columns: s₁ is what the sums began from
   pub sums-done : (s : List ℤ) {s₁ s₂ : List ℤ} → length s ≡ 16 → ((i : ℕ) → n ≤ i → at s₁ i ≡ at s i) → SoFar n n g d s₁ s₂ → s₂ ≡ filled (row-dot n g d) s n

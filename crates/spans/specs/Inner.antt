@@ -2,7 +2,7 @@
 -- skip it. The unit of a frame's numbers is at most 2^40, and so is a row's weight; a row's sum is within
 -- 2^48.
 use mathlib.Core.{Path._≡_, List.List}
-use Prim.Native.Nat.{ℕ, _^_, _<_, _≤_}
+use Prim.Native.Nat.{ℕ, _+_, _^_, _<_, _≤_}
 use lib.{IntN.ℤ, IntN.natAbs, IntN._*ℤ_, ListN.length, ListN.getD}
 use Rattle.integers.specs.{Flat.at, Flat.entry, Sum.dot, Sum.weight}
 use Rattle.column.specs.Column.{column, Zeros}
@@ -32,17 +32,21 @@ MaySumRows n g d = (i : ℕ) → i < n → MaySum g i n d
 
 -- column j has no entry other than 0 before row lo; and one such row for each column
 abbrev pub Start : (n : ℕ) (g : List ℤ) (j lo : ℕ) → Type 0
-Start n g j lo = (lo ≤ n) × Zeros (column g j) 0 lo
+Start n g j lo = (lo < n) × Zeros (column g j) 0 lo
 
 abbrev pub Starts : (n : ℕ) (g : List ℤ) (starts : List ℕ) → Type 0
 Starts n g starts = (j : ℕ) → j < n → Start n g j (getD starts j 0)
 
--- the entry of each column in the row where it starts, if there is such a row
-abbrev pub First : (n : ℕ) (g : List ℤ) (j lo : ℕ) (e : ℤ) → Type 0
-First n g j lo e = lo < n → e ≡ entry g lo j
-
+-- the entry of each column in the row where it starts
 abbrev pub Firsts : (n : ℕ) (g : List ℤ) (starts : List ℕ) (firsts : List ℤ) → Type 0
-Firsts n g starts firsts = (j : ℕ) → j < n → First n g j (getD starts j 0) (at firsts j)
+Firsts n g starts firsts = (j : ℕ) → j < n → at firsts j ≡ entry g (getD starts j 0) j
+
+-- column j has none after row lo and before row next
+abbrev pub Next : (g : List ℤ) (j lo next : ℕ) → Type 0
+Next g j lo next = (lo < next) × Zeros (column g j) (lo + 1) next
+
+abbrev pub Nexts : (n : ℕ) (g : List ℤ) (starts nexts : List ℕ) → Type 0
+Nexts n g starts nexts = (j : ℕ) → j < n → Next g j (getD starts j 0) (getD nexts j 0)
 
 -- column j has none from row hi on
 abbrev pub End : (n : ℕ) (g : List ℤ) (j hi : ℕ) → Type 0

@@ -1,18 +1,19 @@
 // The rows' sums with the digits of the step before, one column after the other, each multiplied by its
-// digit. Of a column only the rows from its first entry to its last are looked at: a curve's columns have one
-// entry, but for column 0. A column whose digit is 0 is skipped: its rows keep their sums.
+// digit. Of a column only its first entry is looked at, and the rows from its second one to its last: a
+// curve's columns have one entry or two, but for column 0. A column whose digit is 0 is skipped: its rows keep
+// their sums.
 ghost use mathlib.Core.Path.{_≡_};
 ghost use Prim.Native.Nat.{_<_, _≤_};
 ghost use lib.ListN.{length};
 ghost use Rattle.integers.specs.Flat.{filled};
-ghost use Rattle.spans.specs.Inner.{Summed, MaySumRows, Start, Starts, First, Firsts, End, Ends, MayBegin, Begun, first-product};
+ghost use Rattle.spans.specs.Inner.{Summed, MaySumRows, Start, Starts, Firsts, Next, Nexts, End, Ends, MayBegin, Begun, first-product};
 use job::ROWS;
 use system::ENTRIES;
 
-// The first row below n in which column j has an entry other than 0, or n where there is none. Rows are
-// looked at two in a turn, which takes less time; an odd n leaves the last row, which is then given unseen.
+// The first row below n in which column j has an entry other than 0, or the last row where there is none. Rows
+// are looked at two in a turn, which takes less time; an odd n leaves the last row, which is then given unseen.
 fn column_start(g: &[i64; ENTRIES], j: usize, n: usize) -> usize
-    requires { ⌜ (j < 16) × (n ≤ 16) ⌝ }
+    requires { ⌜ (j < 16) × (1 ≤ n) × (n ≤ 16) ⌝ }
     ensures { λ lo. ⌜ Start n (now (g .entry)) j lo ⌝ }
 {
     let mut lo: usize = 0;
@@ -25,7 +26,7 @@ fn column_start(g: &[i64; ENTRIES], j: usize, n: usize) -> usize
         }
         lo += 2;
     }
-    lo
+    if lo < n { lo } else { n - 1 }
 }
 
 // The row after the last one below n in which column j has an entry other than 0, or 0 where there is none.
@@ -71,31 +72,54 @@ pub fn column_ends(g: &[i64; ENTRIES], n: usize, hi: &mut [usize; ROWS])
     }
 }
 
-// The entry of column j in row lo; 0 where lo is no row below n.
-fn entry_at(g: &[i64; ENTRIES], j: usize, lo: usize, n: usize) -> i64
-    requires { ⌜ (j < 16) × (n ≤ 16) ⌝ }
-    ensures { λ e. ⌜ First n (now (g .entry)) j lo e ⌝ }
-{
-    if n <= lo {
-        return 0;
-    }
-    g[16 * lo + j]
-}
-
-// For each column its entry in the row where it starts, in `firsts`. Most columns of a curve have no other,
-// and a step then need not look into the matrix.
+// For each column its entry in the row where it starts, in `firsts`.
 pub fn column_firsts<'a>(
     g: &'a [i64; ENTRIES],
     starts: &'a [usize; ROWS],
     n: usize,
     firsts: &mut [i64; ROWS],
 )
-    requires { ⌜ (n ≤ 16) × (length (now firsts) ≡ 16) ⌝ }
+    requires { ⌜ (n ≤ 16) × Starts n (now g) (now starts) × (length (now firsts) ≡ 16) ⌝ }
     ensures { λ _. ⌜ Firsts n (now (g .entry)) (now (starts .entry)) (now (firsts .exit)) ⌝ }
 {
     let mut j: usize = 0;
     while j < n {
-        firsts[j] = entry_at(g, j, starts[j], n);
+        firsts[j] = g[16 * starts[j] + j];
+        j += 1;
+    }
+}
+
+// The first row after row lo and below hi in which column j has an entry other than 0; where there is none,
+// a row from hi on.
+fn column_next(g: &[i64; ENTRIES], j: usize, lo: usize, hi: usize) -> usize
+    requires { ⌜ (j < 16) × (lo < 16) × (hi ≤ 16) ⌝ }
+    ensures { λ next. ⌜ Next (now (g .entry)) j lo next ⌝ }
+{
+    let mut next = lo + 1;
+    while next < hi {
+        if g[16 * next + j] != 0 {
+            return next;
+        }
+        next += 1;
+    }
+    next
+}
+
+// For each column the row of its second entry, in `nexts`. Most columns of a curve have none, and a step then
+// need not look into the matrix.
+pub fn column_nexts<'a>(
+    g: &'a [i64; ENTRIES],
+    starts: &'a [usize; ROWS],
+    ends: &'a [usize; ROWS],
+    n: usize,
+    nexts: &mut [usize; ROWS],
+)
+    requires { ⌜ (n ≤ 16) × Starts n (now g) (now starts) × Ends n (now g) (now ends) × (length (now nexts) ≡ 16) ⌝ }
+    ensures { λ _. ⌜ Nexts n (now (g .entry)) (now (starts .entry)) (now (nexts .exit)) ⌝ }
+{
+    let mut j: usize = 0;
+    while j < n {
+        nexts[j] = column_next(g, j, starts[j], ends[j]);
         j += 1;
     }
 }
@@ -132,21 +156,23 @@ pub fn column_sums<'a>(
     starts: &'a [usize; ROWS],
     ends: &'a [usize; ROWS],
     firsts: &'a [i64; ROWS],
+    nexts: &'a [usize; ROWS],
     d: &'a [i8; ROWS],
     n: usize,
     s: &mut [i64; ROWS],
 )
-    requires { ⌜ (1 ≤ n) × (n ≤ 16) × (length (now s) ≡ 16) × MaySumRows n (now g) (now d) × Starts n (now g) (now starts) × Ends n (now g) (now ends) × Firsts n (now g) (now starts) (now firsts) ⌝ }
+    requires { ⌜ (1 ≤ n) × (n ≤ 16) × (length (now s) ≡ 16) × MaySumRows n (now g) (now d) × Starts n (now g) (now starts) × Ends n (now g) (now ends) × Firsts n (now g) (now starts) (now firsts) × Nexts n (now g) (now starts) (now nexts) ⌝ }
     ensures { λ _. ⌜ (length (now (s .exit)) ≡ 16) × Summed n (now (g .entry)) (now (d .entry)) (now (s .exit)) ⌝ }
 {
     begin_sums(g, starts[0], ends[0], integers::widen(d[0]), n, s);
     let mut j: usize = 1;
     while j < n {
-        column::add_from(
+        column::add_entries(
             g,
             firsts[j],
             j,
             starts[j],
+            nexts[j],
             ends[j],
             integers::widen(d[j]),
             s,

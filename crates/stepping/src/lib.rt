@@ -12,7 +12,7 @@ ghost use lib.ListN.{length, getD, replicate};
 ghost use Rattle.integers.specs.Flat.{at, flat-vector};
 ghost use Rattle.additions.specs.Additions.{nonzero};
 ghost use Rattle.selection.specs.Selection.{selection-table};
-ghost use Rattle.spans.specs.Inner.{row-dot, MaySumRows, Starts, Ends, Firsts};
+ghost use Rattle.spans.specs.Inner.{row-dot, MaySumRows, Starts, Ends, Firsts, Nexts};
 ghost use Rattle.stepping.specs.Inner.{FirstZero, MayStepOnce, Stepped, MayStep};
 ghost use Rattle.signs.specs.Inner.{Columns};
 ghost use Rattle.counts.specs.Inner.{Counts, MayCount};
@@ -82,6 +82,7 @@ fn step_by_spans<'a>(
     starts: &'a [usize; ROWS],
     ends: &'a [usize; ROWS],
     firsts: &'a [i64; ROWS],
+    nexts: &'a [usize; ROWS],
     before: [i8; ROWS],
     mut chosen: [i8; ROWS],
     sums: &mut [i64; ROWS],
@@ -89,7 +90,7 @@ fn step_by_spans<'a>(
     z: &mut [i64; ROWS],
     digits: &mut [i8; DIGITS],
 ) -> [i8; ROWS]
-    requires { ⌜ MayStepOnce (state-of true h scale k (now g) (now z) (now digits)) r q bits before (now sums) × Starts (h .n) (now g) (now starts) × Ends (h .n) (now g) (now ends) × Firsts (h .n) (now g) (now starts) (now firsts) × (length (now sums) ≡ 16) × (now choices ≡ selection-table) × MayCount (h .n) (now times) ⌝ }
+    requires { ⌜ MayStepOnce (state-of true h scale k (now g) (now z) (now digits)) r q bits before (now sums) × Starts (h .n) (now g) (now starts) × Ends (h .n) (now g) (now ends) × Firsts (h .n) (now g) (now starts) (now firsts) × Nexts (h .n) (now g) (now starts) (now nexts) × (length (now sums) ≡ 16) × (now choices ≡ selection-table) × MayCount (h .n) (now times) ⌝ }
     ensures step { λ v. ⌜ Stepped (state-of true h scale k (now (g .entry)) (now (z .entry)) (now (digits .entry))) (now (z .exit)) (now (digits .exit)) v (now (sums .exit)) ⌝ }
     ensures size { λ _. ⌜ length (now (sums .exit)) ≡ 16 ⌝ }
     ensures counted { λ v. ⌜ Counts (h .n) (λ j. getD (now (times .entry)) j 0 + nonzero (at v j)) (now (times .exit)) ⌝ }
@@ -97,7 +98,7 @@ fn step_by_spans<'a>(
     let n = h.n;
     chosen = [0i8; ROWS];
     choice::choose(choices, sums, z, &mut chosen, digits, n, k, r, q, bits, h.p);
-    spans::column_sums(g, starts, ends, firsts, &chosen, n, sums);
+    spans::column_sums(g, starts, ends, firsts, nexts, &chosen, n, sums);
     counts::count_digits(&chosen, n, times);
     chosen
 }
@@ -129,6 +130,8 @@ fn run_by_spans(
     spans::column_ends(g, n, &mut ends);
     let mut firsts = [0i64; ROWS];
     spans::column_firsts(g, &starts, n, &mut firsts);
+    let mut nexts = [0usize; ROWS];
+    spans::column_nexts(g, &starts, &ends, n, &mut nexts);
     let mut before = last_digits(digits, k, n);
     let mut chosen = [0i8; ROWS];
     let mut sums = first_sums(g, &before, n, k);
@@ -147,6 +150,7 @@ fn run_by_spans(
             &starts,
             &ends,
             &firsts,
+            &nexts,
             before,
             chosen,
             &mut sums,

@@ -16,6 +16,7 @@ use Rattle.integers.specs.Flat.{at, entry, flat-vector, flat-matrix, stores}
 use Rattle.integers.proofs.Flat.{at-flat-vector, entry-flat-matrix, length-list-from, getD-list-from}
 use Rattle.integers.proofs.Stores.{stores-suc, length-stores, stores-at, stores-other}
 use Rattle.integers.proofs.Maximum.{le-or-lt}
+use Rattle.system.specs.Inner.{zeros}
 
 -- a turn of a loop that stores one entry
 pub stores-more : (g : List ℤ) (place : ℕ → ℕ) (value : ℕ → ℤ) (k : ℕ) (z : List ℤ) (x : ℤ) → z ≡ stores g place value k → x ≡ value k
@@ -84,9 +85,6 @@ one-place i j a b h k e =
     let q : (16 * a + b) / 16 ≡ a = omega arith in
     let r : i ≡ a = sym p ∙ ap (λ m. m / 16) e ∙ q in
     (r, omega arith)
-
-abbrev pub zeros : List ℤ
-zeros = replicate 256 (pos 0)
 
 pub entry-zeros : (i j : ℕ) → i < 16 → j < 16 → entry zeros i j ≡ pos 0
 entry-zeros i j a b = getD-replicate 256 (16 * i + j) (pos 0) (pos 0) (omega arith)

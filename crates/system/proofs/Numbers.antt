@@ -1,10 +1,10 @@
 -- The numbers of a job as they are sent, and where among them the entries and the right-hand sides stand.
--- Cited by the proofs of `matrix` and `right_sides`.
+-- Cited by the proofs of `place_matrix`, `right_sides` and what they call.
 use mathlib.Core.Path.{_≡_, refl, ap, _∙_}
 use mathlib.Core.Bool.{cond}
 use mathlib.Core.List.{List}
 use Prim.Native.Nat.{ℕ, zero, suc, _+_, _*_, _-_, _<_, _≤_, _^_}
-use native.Mathlib.Nat.{mul-le-mul-right}
+use native.Mathlib.Nat.{mul-le-mul, mul-le-mul-right}
 use native.Mathlib.Omega.{arith}
 use lib.Dec.{eqb}
 use lib.IntN.{ℤ, pos, negℤ, _-ℤ_, +ℤ-idl}
@@ -17,10 +17,16 @@ use Rattle.integers.specs.Flat.{flat-matrix}
 use Rattle.integers.proofs.Machine.{machs, machine-eq}
 use Rattle.job.specs.Kind.{Kind, system, quotients, kind-of, count-of, most-numbers}
 use Rattle.job.proofs.Limits.{count-most}
-use Rattle.system.specs.Inner.{Numbers}
+use Rattle.system.specs.Inner.{Numbers, Apart}
 use Rattle.system.specs.System.{sent, argument, denominator, no-denominator, curve-entry, system-entry, coefficient, subtrahend, quotients-entry, matrix, right-place, right-side}
 
--- a kind of the table that is none of the first three is a sum of quotients
+-- a kind of the table that is none of three others
+pub rational-kind : (k : ℕ) → k ≤ 3 → (k ≡ 0 → ⊥) → (k ≡ 2 → ⊥) → (k ≡ 3 → ⊥) → k ≡ 1
+rational-kind zero l a b c = absurd (a refl)
+rational-kind (suc zero) l a b c = refl
+rational-kind (suc (suc zero)) l a b c = absurd (b refl)
+rational-kind (suc (suc (suc k))) l a b c = absurd (c (omega arith))
+
 pub last-kind : (k : ℕ) → k ≤ 3 → (k ≡ 0 → ⊥) → (k ≡ 1 → ⊥) → (k ≡ 2 → ⊥) → k ≡ 3
 last-kind zero l a b c = absurd (a refl)
 last-kind (suc zero) l a b c = absurd (b refl)
@@ -55,19 +61,31 @@ pub right-place-system : (k n i : ℕ) → k ≡ 2 → i * (n + 1) + n ≡ right
 right-place-system k n i e = rw e refl
 
 -- of the kind that is left, in row 0 and in every other row
-module _ (k n i : ℕ) (l : k ≤ 3) (h : 2 ≤ k) (other : k ≡ 2 → ⊥) where
+module _ (k n : ℕ) (l : k ≤ 3) (h : 2 ≤ k) (other : k ≡ 2 → ⊥) where
   third : k ≡ 3
   third = last-kind k l (λ e. omega arith) (λ e. omega arith) other
 
-  pub right-place-first : i ≡ 0 → 0 ≡ right-place (kind-of k) n i
-  right-place-first e = rw (third, e) refl
+  pub right-place-first : (i : ℕ) → i ≡ 0 → 0 ≡ right-place (kind-of k) n i
+  right-place-first i e = rw (third, e) refl
 
-  pub right-place-next : (i ≡ 0 → ⊥) → 3 * i - 1 ≡ right-place (kind-of k) n i
-  right-place-next z = rw third (next i z)
+  pub right-place-next : (i : ℕ) → (i ≡ 0 → ⊥) → 3 * i - 1 ≡ right-place (kind-of k) n i
+  right-place-next zero z = absurd (z refl)
+  right-place-next (suc i) z = rw third refl
+
+  pub quotients-apart : Apart (kind-of k) n 3
+  quotients-apart = rw third (record { next = next; small = omega arith })
     where
-      next : (i : ℕ) → (i ≡ 0 → ⊥) → 3 * i - 1 ≡ right-place quotients n i
-      next zero z = absurd (z refl)
-      next (suc i) z = refl
+      next : (i : ℕ) → 1 ≤ i → right-place quotients n (i + 1) ≡ right-place quotients n i + 3
+      next zero m = absurd (omega arith)
+      next (suc i) m = let e : suc i + 1 ≡ suc (suc i) = omega arith in rw e (omega arith)
+
+pub curves-apart : (k n : ℕ) → k < 2 → Apart (kind-of k) n 1
+curves-apart zero n h = record { next = λ i m. omega arith; small = omega arith }
+curves-apart (suc zero) n h = record { next = λ i m. omega arith; small = omega arith }
+curves-apart (suc (suc k)) n h = absurd (omega arith)
+
+pub systems-apart : (k n : ℕ) → k ≡ 2 → n ≤ 16 → Apart (kind-of k) n (n + 1)
+systems-apart k n e l = rw e (record { next = λ i m. omega arith; small = omega arith })
 
 -- entry j of row i of a system, the right side being entry n
 pub system-place : (n i j : ℕ) → i < n → j ≤ n → i * (n + 1) + j < n * (n + 1)
@@ -80,6 +98,13 @@ right-place-most (suc (suc zero)) n i l h = system-place n i n h (omega arith)
 right-place-most (suc (suc (suc zero))) n zero l h = omega arith
 right-place-most (suc (suc (suc zero))) n (suc i) l h = omega arith
 right-place-most (suc (suc (suc (suc k)))) n i l h = absurd (omega arith)
+
+-- also that of one row more, which no job has
+pub place-small : (n i : ℕ) → i ≤ n → n ≤ 16 → i * (n + 1) + n ≤ 288
+place-small n i h l =
+    let a : i ≤ 16 = omega arith in
+    let b : n + 1 ≤ 17 = omega arith in
+    omega (arith, mul-le-mul a b)
 
 pub place-in-numbers : (n i j : ℕ) → i < n → j ≤ n → n ≤ 16 → i * (n + 1) + j < most-numbers
 place-in-numbers n i j h l m = omega (arith, system-place n i j h l, count-most system n m)

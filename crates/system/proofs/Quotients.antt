@@ -1,5 +1,6 @@
--- The matrix of a sum of quotients, stored column by column: that of one order more has two numbers more, in
--- row 0 and on the diagonal. Cited by the proof of `quotients_matrix`.
+-- The matrix of a sum of quotients: its entries, and how it is stored column by column. That of one order more
+-- has two numbers more, in row 0 and on the diagonal. Cited by the proof of `place_quotients` and by those on
+-- its value and its entries.
 use mathlib.Core.Path.{_≡_, refl, sym, _∙_}
 use mathlib.Core.List.{List}
 use mathlib.Core.Logic.{_⊎_, inl, inr}
@@ -13,7 +14,8 @@ use Rattle.integers.specs.Flat.{entry, flat-matrix}
 use Rattle.integers.proofs.Flat.{entry-flat-matrix, length-list-from}
 use Rattle.integers.proofs.Maximum.{le-or-lt}
 use Rattle.system.specs.System.{quotients-entry}
-use Rattle.system.proofs.Arrays.{flat-entry, past-order, matrix-is, one-place, zeros, entry-zeros}
+use Rattle.system.specs.Inner.{zeros}
+use Rattle.system.proofs.Arrays.{flat-entry, past-order, matrix-is, one-place, entry-zeros}
 
 module _ (c b : ℕ → ℤ) where
   abbrev G : ℕ → ℕ → ℤ
@@ -25,11 +27,11 @@ module _ (c b : ℕ → ℤ) where
   unfolding quotients-entry
   first-row j = refl
 
-  diagonal : (i : ℕ) → G (suc i) (suc i) ≡ b (suc i)
+  pub diagonal : (i : ℕ) → quotients-entry c b (suc i) (suc i) ≡ b (suc i)
   unfolding quotients-entry
   diagonal i = rw (eq-eqb (suc i) (suc i) refl)
 
-  off-diagonal : (i j : ℕ) → 0 < i → (j ≡ i → ⊥) → G i j ≡ pos 0
+  pub off-diagonal : (i j : ℕ) → 0 < i → (j ≡ i → ⊥) → quotients-entry c b i j ≡ pos 0
   unfolding quotients-entry
   off-diagonal zero j l h = absurd (omega arith)
   off-diagonal (suc i) j l h = rw (ne-eqb j (suc i) h)

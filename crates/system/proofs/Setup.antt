@@ -1,5 +1,5 @@
--- The matrix of each kind, stored entry by entry: the laws that the proofs of `polynomial_matrix`,
--- `rational_matrix` and `system_matrix` cite.
+-- The matrix of a curve and that of a system, stored entry by entry: the laws that the proofs of
+-- `place_matrix` and `place_rows` cite. That of a sum of quotients stands in `Quotients`.
 use mathlib.Core.Path.{_≡_, refl, sym, _∙_}
 use mathlib.Core.Bool.{cond}
 use mathlib.Core.List.{List}
@@ -15,7 +15,8 @@ use Rattle.integers.proofs.Flat.{entry-flat-matrix, length-list-from}
 use Rattle.integers.proofs.Stores.{length-stores, stores-at, stores-other}
 use Rattle.integers.proofs.Maximum.{le-or-lt}
 use Rattle.system.specs.System.{past-first, no-denominator, curve-entry}
-use Rattle.system.proofs.Arrays.{flat-entry, past-order, matrix-is, one-place, zeros, entry-zeros}
+use Rattle.system.specs.Inner.{zeros}
+use Rattle.system.proofs.Arrays.{flat-entry, past-order, matrix-is, one-place, entry-zeros}
 
 -- ---- a curve: x after the diagonal, then the denominator's coefficients in the first column
 
@@ -53,7 +54,7 @@ module _ (n : ℕ) (h : n ≤ 16) (x : ℤ) where
       by-order (inr p) q = no-argument i (suc j) (omega arith) (omega arith) (λ t l e f. omega arith) ∙ rw (ne-eqb j i (λ e. omega arith))
       by-order (inl p) (inr q) = no-argument i (suc j) (omega arith) (omega arith) (λ t l e f. omega arith) ∙ rw (ne-eqb j i (λ e. omega arith))
 
-  pub argument-filled : with-x ≡ flat-matrix n (curve-entry x no-denominator)
+  argument-filled : with-x ≡ flat-matrix n (curve-entry x no-denominator)
   argument-filled =
       matrix-is n (curve-entry x no-denominator) with-x h (length-stores zeros argument-place (λ t. x) (n - 1)) argument-entry
       (λ i j a b o. no-argument i j a b (outside i j o))
@@ -61,6 +62,9 @@ module _ (n : ℕ) (h : n ≤ 16) (x : ℤ) where
       outside : (i j : ℕ) → (n ≤ i) ⊎ (n ≤ j) → (t : ℕ) → t < n - 1 → i ≡ t → j ≡ t + 1 → ⊥
       outside i j (inl o) t l e f = omega arith
       outside i j (inr o) t l e f = omega arith
+
+  pub argument-placed : (f g : List ℤ) → f ≡ zeros → g ≡ stores f argument-place (λ t. x) (n - 1) → g ≡ flat-matrix n (curve-entry x no-denominator)
+  argument-placed f g a b = b ∙ rw a argument-filled
 
   module _ (q : ℕ → ℤ) where
     abbrev value : ℕ → ℤ
@@ -101,9 +105,9 @@ module _ (n : ℕ) (h : n ≤ 16) (x : ℤ) where
         outside i j (inl o) t l e f = omega arith
         outside i j (inr o) t l e f = omega arith
 
-    pub denominator-placed : (f g : List ℤ) (i : ℕ) → f ≡ flat-matrix n (curve-entry x no-denominator) → g ≡ stores f denominator-place value i → i ≡ n - 1
+    pub denominator-placed : (f g : List ℤ) → f ≡ flat-matrix n (curve-entry x no-denominator) → g ≡ stores f denominator-place value (n - 1)
         → g ≡ flat-matrix n (curve-entry x q)
-    denominator-placed f g i a b e = b ∙ rw (a, e) denominator-filled
+    denominator-placed f g a b = b ∙ rw a denominator-filled
 
 -- ---- row by row
 

@@ -6,7 +6,7 @@ ghost use mathlib.Core.Path.{_≡_};
 ghost use mathlib.Core.Bool.{cond};
 ghost use Prim.Native.Nat.{_+_, _-_, _*_, _/_, _<_, _≤_, _^_};
 ghost use lib.Dec.{ltb, eqb};
-ghost use lib.IntN.{pos, natAbs, _-ℤ_};
+ghost use lib.IntN.{pos, negℤ, natAbs, _-ℤ_};
 ghost use lib.ListN.{length};
 ghost use lib.Signed.{_≤ℤ_};
 ghost use Rattle.integers.specs.Sum.{Within};
@@ -15,8 +15,8 @@ ghost use Rattle.job.specs.Header.{count, Limits};
 ghost use Rattle.job.specs.Kind.{kind-of};
 ghost use Rattle.job.specs.Rules.{ScaleLimits};
 ghost use Rattle.system.specs.Rows.{first-row, heavy-row, large-residual};
-ghost use Rattle.system.specs.Inner.{largest-light, residual-most, Numbers, too-heavy, too-large};
-ghost use Rattle.system.specs.System.{argument, denominator, no-denominator, curve-entry, system-entry, coefficient, subtrahend, quotients-entry, matrix-of, right-place, right-side-of};
+ghost use Rattle.system.specs.Inner.{largest-light, residual-most, Numbers, Apart, zeros, too-heavy, too-large};
+ghost use Rattle.system.specs.System.{denominator, system-entry, coefficient, subtrahend, quotients-entry, matrix-of, right-place, right-side-of};
 use job::Header;
 use job::ROWS;
 
@@ -35,29 +35,16 @@ fn place_argument(g: &mut [i64; ENTRIES], n: usize, x: i64)
     }
 }
 
-// The matrix of a polynomial: x and nothing else.
-fn polynomial_matrix(n: usize, x: i64) -> [i64; ENTRIES]
-    requires { ⌜ n ≤ 16 ⌝ }
-    ensures { λ r. ⌜ r ≡ flat-matrix n (curve-entry x no-denominator) ⌝ }
+// Stores -q in the first column of every row but the first.
+fn place_denominator(g: &mut [i64; ENTRIES], n: usize, v: &[i64])
+    requires { ⌜ (n ≤ 16) × Numbers (2 * n) (now v) ⌝ }
+    ensures { λ _. ⌜ now (g .exit) ≡ stores (now (g .entry)) (λ i. 16 * (i + 1)) (λ i. negℤ (denominator n (now (v .entry)) (i + 1))) (n - 1) ⌝ }
 {
-    let mut g = [0i64; ENTRIES];
-    place_argument(&mut g, n, x);
-    g
-}
-
-// The matrix of a rational curve: besides x, -q in the first column of every row but the first.
-fn rational_matrix(n: usize, v: &[i64]) -> [i64; ENTRIES]
-    requires { ⌜ (1 ≤ n) × (n ≤ 16) × Numbers (2 * n) (now v) ⌝ }
-    ensures { λ r. ⌜ r ≡ flat-matrix n (curve-entry (argument (now (v .entry))) (denominator n (now (v .entry)))) ⌝ }
-{
-    let mut g = [0i64; ENTRIES];
-    place_argument(&mut g, n, v[0]);
     let mut i: usize = 0;
     while i + 1 < n {
         g[16 * (i + 1)] = 0 - v[n + (i + 1)];
         i += 1;
     }
-    g
 }
 
 // An entry of the identity less A, in units of 1 / u.
@@ -84,56 +71,57 @@ fn place_row(g: &mut [i64; ENTRIES], i: usize, n: usize, u: u64, v: &[i64])
     }
 }
 
-// The matrix of a system.
-fn system_matrix(n: usize, u: u64, v: &[i64]) -> [i64; ENTRIES]
-    requires { ⌜ (n ≤ 16) × (u ≤ 2 ^ 40) × Numbers (n * (n + 1)) (now v) ⌝ }
-    ensures { λ r. ⌜ r ≡ flat-matrix n (system-entry u n (now (v .entry))) ⌝ }
+// Stores the matrix of a system in an array of zeros, row by row.
+fn place_rows(g: &mut [i64; ENTRIES], n: usize, u: u64, v: &[i64])
+    requires { ⌜ (n ≤ 16) × (u ≤ 2 ^ 40) × Numbers (n * (n + 1)) (now v) × (now g ≡ zeros) ⌝ }
+    ensures { λ _. ⌜ now (g .exit) ≡ flat-matrix n (system-entry u n (now (v .entry))) ⌝ }
 {
-    let mut g = [0i64; ENTRIES];
     let mut i: usize = 0;
     while i < n {
-        place_row(&mut g, i, n, u, v);
+        place_row(g, i, n, u, v);
         i += 1;
     }
-    g
 }
 
-// The matrix of a sum of quotients: in every column but the first, c in row 0 and b on the diagonal. The
-// matrix of order i has no number of column i, so each turn leaves the matrix of order i + 1.
-fn quotients_matrix(n: usize, v: &[i64]) -> [i64; ENTRIES]
-    requires { ⌜ (1 ≤ n) × (n ≤ 16) × Numbers (3 * n - 2) (now v) ⌝ }
-    ensures { λ r. ⌜ r ≡ flat-matrix n (quotients-entry (coefficient (now (v .entry))) (subtrahend (now (v .entry)))) ⌝ }
+// Stores the matrix of a sum of quotients in an array of zeros: in every column but the first, c in row 0 and
+// b on the diagonal. The matrix of order i has no number of column i, so each turn leaves that of order i + 1.
+fn place_quotients(g: &mut [i64; ENTRIES], n: usize, v: &[i64])
+    requires { ⌜ (1 ≤ n) × (n ≤ 16) × Numbers (3 * n - 2) (now v) × (now g ≡ zeros) ⌝ }
+    ensures { λ _. ⌜ now (g .exit) ≡ flat-matrix n (quotients-entry (coefficient (now (v .entry))) (subtrahend (now (v .entry)))) ⌝ }
 {
-    let mut g = [0i64; ENTRIES];
     let mut i: usize = 1;
     while i < n {
         g[i] = v[3 * i - 2];
         g[16 * i + i] = v[3 * i];
         i += 1;
     }
-    g
 }
 
-// The matrix G of a job, from the numbers as they are sent.
-pub fn matrix(h: Header, v: &[i64]) -> [i64; ENTRIES]
-    requires { ⌜ Limits h × Numbers (count h) (now v) ⌝ }
-    ensures { λ r. ⌜ r ≡ flat-matrix (h .n) (matrix-of h (now (v .entry))) ⌝ }
+// Stores the matrix G of a job, from the numbers as they are sent, in an array of zeros. The array is lent, so
+// that its 2 KB are not copied on the way to where they are kept.
+pub fn place_matrix(g: &mut [i64; ENTRIES], h: Header, v: &[i64])
+    requires { ⌜ Limits h × Numbers (count h) (now v) × (now g ≡ zeros) ⌝ }
+    ensures { λ _. ⌜ now (g .exit) ≡ flat-matrix (h .n) (matrix-of h (now (v .entry))) ⌝ }
 {
-    if h.kind == 0 {
-        return polynomial_matrix(h.n, v[0]);
-    }
-    if h.kind == 1 {
-        return rational_matrix(h.n, v);
-    }
+    let n = h.n;
     if h.kind == 2 {
-        return system_matrix(h.n, integers::pow2(h.f), v);
+        place_rows(g, n, integers::pow2(h.f), v);
+        return;
     }
-    quotients_matrix(h.n, v)
+    if h.kind == 3 {
+        place_quotients(g, n, v);
+        return;
+    }
+    place_argument(g, n, v[0]);
+    if h.kind == 0 {
+        return;
+    }
+    place_denominator(g, n, v);
 }
 
 // Where among the numbers the right-hand side of row i stands.
 fn right_place(kind: usize, n: usize, i: usize) -> usize
-    requires { ⌜ (kind ≤ 3) × (i < n) × (n ≤ 16) ⌝ }
+    requires { ⌜ (kind ≤ 3) × (i ≤ n) × (n ≤ 16) ⌝ }
     ensures { λ r. ⌜ r ≡ right-place (kind-of kind) n i ⌝ }
 {
     if kind < 2 {
@@ -145,7 +133,22 @@ fn right_place(kind: usize, n: usize, i: usize) -> usize
     if i == 0 { 0 } else { 3 * i - 1 }
 }
 
-// The right-hand sides of a job, from the numbers as they are sent.
+// How far behind it that of the next row stands, from row 1 on.
+fn right_stride(kind: usize, n: usize) -> usize
+    requires { ⌜ (kind ≤ 3) × (n ≤ 16) ⌝ }
+    ensures { λ r. ⌜ Apart (kind-of kind) n r ⌝ }
+{
+    if kind < 2 {
+        return 1;
+    }
+    if kind == 2 {
+        return n + 1;
+    }
+    3
+}
+
+// The right-hand sides of a job, from the numbers as they are sent. By strides, so that the kind is not asked
+// for in each row.
 pub fn right_sides(h: Header, v: &[i64]) -> [i64; ROWS]
     requires { ⌜ Limits h × (count h ≤ length (now v)) ⌝ }
     ensures { λ r. ⌜ r ≡ flat-vector (h .n) (right-side-of h (now (v .entry))) ⌝ }
@@ -153,9 +156,13 @@ pub fn right_sides(h: Header, v: &[i64]) -> [i64; ROWS]
     let kind = h.kind;
     let n = h.n;
     let mut z = [0i64; ROWS];
-    let mut i: usize = 0;
+    z[0] = v[right_place(kind, n, 0)];
+    let stride = right_stride(kind, n);
+    let mut place = right_place(kind, n, 1);
+    let mut i: usize = 1;
     while i < n {
-        z[i] = v[right_place(kind, n, i)];
+        z[i] = v[place];
+        place += stride;
         i += 1;
     }
     z

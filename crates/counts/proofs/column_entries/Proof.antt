@@ -19,7 +19,7 @@ returns c =
     let p = c .before in
     let s = p .pre .2 in
     no-entries (p .args .g .now) (p .args .j) _ (s .1)
-    ∙ entries-all (p .args .g .now) (p .args .j) (p .args .n) (p .args .lo) (s .0) (λ t a b. p .pre .3 .1 t (omega (arith, c .if1 .taken)) b)
+    ∙ entries-all (p .args .g .now) (p .args .j) (p .args .n) (p .args .lo) (omega (arith, s .0)) (λ t a b. p .pre .3 .1 t (omega (arith, c .if1 .taken)) b)
 
 mul-counted : tie.Need-mul-counted Inv-loop μ-loop
 mul-counted c = omega arith

@@ -1,4 +1,5 @@
 -- Refused by 1 to 7, or by 8 and 15, or else the fresh state of the job.
+use mathlib.Core.Path.{refl}
 use borrow.Author.Needs.{needs}
 use Rattle.job.proofs.Limits.{order-within}
 use Rattle.frame.proofs.ReadJob.{Unpacked, unpack-limits, unpack-gives, part-long, part-within, part-small}
@@ -35,11 +36,11 @@ slice-aggregate-numbers c = part-long (unpacked (c .before))
 right-sides-requires : tie.Need-right-sides-requires
 right-sides-requires c κs = let p = part-small (unpacked (c .before)) in (p .0, p .1 .enough)
 
-matrix-requires : tie.Need-matrix-requires
-matrix-requires c κs = part-small (unpacked (c .before .before))
+place-matrix-requires : tie.Need-place-matrix-requires
+place-matrix-requires c κs = let p = part-small (unpacked (c .before .before .before)) in (p .0, p .1, refl)
 
 weigh-requires : tie.Need-weigh-requires
-weigh-requires c κs = load-weighs (unpacked (c .before .before .before .before .before)) (c .before .before .before .right-sides .ensures)
+weigh-requires c κs = load-weighs (unpacked (c .before .before .before .before .before .before)) (c .before .before .before .before .right-sides .ensures)
 
 refused-requires-2 : tie.Need-refused-requires-2
 refused-requires-2 c κs = search needs
@@ -48,13 +49,13 @@ returns-2 : tie.Need-returns-2
 returns-2 c =
     let d = c .before .before .before in
     let g = d .before .before .before in
-    load-refuses (unpacked (g .before .before .before)) (g .matrix .ensures) (g .before .right-sides .ensures) (d .weigh .ensures) (c .before .if2 .taken) (c .refused2 .ensures)
+    load-refuses (unpacked (g .before .before .before .before)) (g .place-matrix .ensures) (g .before .before .right-sides .ensures) (d .weigh .ensures) (c .before .if2 .taken) (c .refused2 .ensures)
 
 returns-3 : tie.Need-returns-3
 returns-3 c =
     let d = c .before .before in
     let g = d .before .before .before in
-    load-makes (unpacked (g .before .before .before)) (g .matrix .ensures) (g .before .right-sides .ensures) (d .weigh .ensures) (c .if2 .left)
+    load-makes (unpacked (g .before .before .before .before)) (g .place-matrix .ensures) (g .before .before .right-sides .ensures) (d .weigh .ensures) (c .if2 .left)
 
 pub load-spec : {M : Type 1} → statement M
 load-spec =
@@ -68,7 +69,7 @@ load-spec =
     array-share-prefix-v
     slice-aggregate-numbers
     right-sides-requires
-    matrix-requires
+    place-matrix-requires
     weigh-requires
     refused-requires-2
     returns-2

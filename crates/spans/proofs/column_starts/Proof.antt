@@ -16,7 +16,7 @@ loop-holds : tie.Need-loop-holds Inv-loop μ-loop
 loop-holds c = (omega arith, found-none _ _ _ (c .pre .1))
 
 column-start-requires : tie.Need-column-start-requires Inv-loop μ-loop
-column-start-requires c κs = (omega arith, omega arith)
+column-start-requires c κs = (omega arith, omega arith, omega arith)
 
 mul-lo : tie.Need-mul-lo Inv-loop μ-loop
 mul-lo c = omega arith

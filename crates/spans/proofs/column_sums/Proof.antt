@@ -4,15 +4,15 @@ use mathlib.Core.Path.{_≡_, _∙_}
 use Prim.Native.Nat.{_-_, _≤_}
 use native.Mathlib.Omega.{arith}
 use Rattle.integers.proofs.Machine.{i64-kept}
-use Rattle.spans.proofs.ColumnSum.{SoFar, may-begin, sums-begun, may-add-next, sums-more}
+use Rattle.spans.proofs.ColumnSum.{SoFar, may-begin, sums-begun, may-add-entries, entries-more}
 use Rattle.spans.proofs.column_sums.Statement.{statement}
 use Rattle.spans.proofs.column_sums.Tie as tie
 
 abbrev Inv-loop : tie.InvT-loop
-Inv-loop g starts ends firsts d n s₀ j₀ s j = (j ≤ n) × SoFar n j g d s₀ s
+Inv-loop g starts ends firsts nexts d n s₀ j₀ s j = (j ≤ n) × SoFar n j g d s₀ s
 
 abbrev μ-loop : tie.MeasureT-loop
-μ-loop g starts ends firsts d n s₀ j₀ s j = n - j
+μ-loop g starts ends firsts nexts d n s₀ j₀ s j = n - j
 
 element-copy-out-begin-sums : tie.Need-element-copy-out-begin-sums Inv-loop μ-loop
 element-copy-out-begin-sums c = omega arith
@@ -39,23 +39,29 @@ loop-holds c =
     let a = start c in
     (a .pre .0, sums-begun (a .pre .1) (a .pre .3) (a .pre .0) _ (c .before .before .widen .ensures) (c .begin-sums .ensures))
 
-mul-add-from : tie.Need-mul-add-from Inv-loop μ-loop
-mul-add-from c = omega arith
+mul-add-entries : tie.Need-mul-add-entries Inv-loop μ-loop
+mul-add-entries c = omega arith
 
-element-copy-out-add-from : tie.Need-element-copy-out-add-from Inv-loop μ-loop
-element-copy-out-add-from c = omega arith
+element-copy-out-add-entries : tie.Need-element-copy-out-add-entries Inv-loop μ-loop
+element-copy-out-add-entries c = omega arith
 
-mul-add-from-2 : tie.Need-mul-add-from-2 Inv-loop μ-loop
-mul-add-from-2 c = omega arith
+mul-add-entries-2 : tie.Need-mul-add-entries-2 Inv-loop μ-loop
+mul-add-entries-2 c = omega arith
 
-element-copy-out-add-from-2 : tie.Need-element-copy-out-add-from-2 Inv-loop μ-loop
-element-copy-out-add-from-2 c = omega arith
+element-copy-out-add-entries-2 : tie.Need-element-copy-out-add-entries-2 Inv-loop μ-loop
+element-copy-out-add-entries-2 c = omega arith
 
-mul-add-from-3 : tie.Need-mul-add-from-3 Inv-loop μ-loop
-mul-add-from-3 c = omega arith
+mul-add-entries-3 : tie.Need-mul-add-entries-3 Inv-loop μ-loop
+mul-add-entries-3 c = omega arith
 
-element-copy-out-add-from-3 : tie.Need-element-copy-out-add-from-3 Inv-loop μ-loop
-element-copy-out-add-from-3 c = omega arith
+element-copy-out-add-entries-3 : tie.Need-element-copy-out-add-entries-3 Inv-loop μ-loop
+element-copy-out-add-entries-3 c = omega arith
+
+mul-add-entries-4 : tie.Need-mul-add-entries-4 Inv-loop μ-loop
+mul-add-entries-4 c = omega arith
+
+element-copy-out-add-entries-4 : tie.Need-element-copy-out-add-entries-4 Inv-loop μ-loop
+element-copy-out-add-entries-4 c = omega arith
 
 element-copy-out-widen-2 : tie.Need-element-copy-out-widen-2 Inv-loop μ-loop
 element-copy-out-widen-2 c = omega arith
@@ -63,17 +69,15 @@ element-copy-out-widen-2 c = omega arith
 widen-requires-2 : tie.Need-widen-requires-2 Inv-loop μ-loop
 widen-requires-2 c κs = tt
 
-add-from-requires : tie.Need-add-from-requires Inv-loop μ-loop
-add-from-requires c κs =
-    let e = c .before .before .before .before .before in
+add-entries-requires : tie.Need-add-entries-requires Inv-loop μ-loop
+add-entries-requires c κs =
+    let e = c .before .before .before .before .before .before in
     let i = e .before in
     let a = start (i .before .before) in
     let l = i .before .loop in
     let m = i .loop-test .taken in
-    let z = a .pre .5 (l .j) m in (
-      may-add-next (a .pre .1) (a .pre .3) m (l .inv .1) (a .pre .4 (l .j) m) z _ (c .before .widen2 .ensures),
-      λ o. i64-kept _ (e .add-from-arg .given) ∙ a .pre .6 (l .j) m (omega (arith, o, z .0)),
-    )
+    may-add-entries (a .pre .1) (a .pre .3) m (l .inv .1) _ (c .before .widen2 .ensures) (a .pre .4 (l .j) m) (a .pre .5 (l .j) m) (a .pre .7 (l .j) m)
+    (i64-kept _ (e .add-entries-arg .given) ∙ a .pre .6 (l .j) m)
 
 add-j : tie.Need-add-j Inv-loop μ-loop
 add-j c = omega arith
@@ -83,11 +87,15 @@ loop-less c = omega arith
 
 loop-again : tie.Need-loop-again Inv-loop μ-loop
 loop-again c =
-    let i = c .before .before .before .before .before .before .before in
+    let e = c .before .before .before .before .before .before .before in
+    let i = e .before in
     let a = start (i .before .before) in
     let l = i .before .loop in
-    let m = i .loop-test .taken in
-    (omega arith, sums-more (a .pre .1) (a .pre .3) m (l .inv .1) (a .pre .4 (l .j) m) (a .pre .5 (l .j) m) _ (c .before .before .widen2 .ensures) (c .add-from .ensures))
+    let m = i .loop-test .taken in (
+      omega arith,
+      entries-more (a .pre .1) (a .pre .3) m (l .inv .1) _ (c .before .before .widen2 .ensures) (a .pre .4 (l .j) m) (a .pre .5 (l .j) m) (a .pre .7 (l .j) m)
+          (i64-kept _ (e .add-entries-arg .given) ∙ a .pre .6 (l .j) m) (c .add-entries .ensures),
+    )
 
 returns : tie.Need-returns Inv-loop μ-loop
 returns c =
@@ -110,15 +118,17 @@ column-sums-spec =
     widen-requires
     begin-sums-requires
     loop-holds
-    mul-add-from
-    element-copy-out-add-from
-    mul-add-from-2
-    element-copy-out-add-from-2
-    mul-add-from-3
-    element-copy-out-add-from-3
+    mul-add-entries
+    element-copy-out-add-entries
+    mul-add-entries-2
+    element-copy-out-add-entries-2
+    mul-add-entries-3
+    element-copy-out-add-entries-3
+    mul-add-entries-4
+    element-copy-out-add-entries-4
     element-copy-out-widen-2
     widen-requires-2
-    add-from-requires
+    add-entries-requires
     add-j
     loop-less
     loop-again

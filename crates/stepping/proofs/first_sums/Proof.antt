@@ -36,7 +36,7 @@ add-column-requires c κs =
     let i = c .before .before .before in
     let a = i .before .before .before in
     let l = i .before .loop in
-    may-add-next (a .pre .0) (a .pre .1) (i .loop-test .taken) (l .inv .1) (from-first (a .args .n) (a .args .g .now) (l .j)) (to-last (a .args .n) (a .args .g .now) (l .j)) _ (c .before .widen .ensures)
+    may-add-next (a .pre .0) (a .pre .1) (i .loop-test .taken) (l .inv .1) _ (c .before .widen .ensures) (to-last (a .args .n) (a .args .g .now) (l .j))
 
 add-j : tie.Need-add-j Inv-loop μ-loop
 add-j c = omega arith
@@ -49,7 +49,7 @@ loop-again c =
     let i = c .before .before .before .before in
     let a = i .before .before .before in
     let l = i .before .loop in
-    (omega arith, sums-more (a .pre .0) (a .pre .1) (i .loop-test .taken) (l .inv .1) (from-first (a .args .n) (a .args .g .now) (l .j)) (to-last (a .args .n) (a .args .g .now) (l .j)) _ (c .before .before .widen .ensures) (c .add-column .ensures))
+    (omega arith, sums-more (a .pre .0) (a .pre .1) (i .loop-test .taken) (l .inv .1) _ (c .before .before .widen .ensures) (from-first (a .args .n) (a .args .g .now) (l .j) (i .loop-test .taken)) (to-last (a .args .n) (a .args .g .now) (l .j)) (c .add-column .ensures))
 
 returns-2 : tie.Need-returns-2 Inv-loop μ-loop
 returns-2 c =

@@ -12,12 +12,12 @@ use Rattle.stepping.proofs.run_by_spans.Statement.{statement}
 use Rattle.stepping.proofs.run_by_spans.Tie as tie
 
 abbrev Inv-loop : tie.InvT-loop
-Inv-loop h scale k made choices g z₀ digits₀ n r q bits starts ends firsts before₀ chosen₀ sums₀ times₀ j₀ z digits before chosen sums times j =
+Inv-loop h scale k made choices g z₀ digits₀ n r q bits starts ends firsts nexts before₀ chosen₀ sums₀ times₀ j₀ z digits before chosen sums times j =
     (j ≤ made) × (length sums ≡ 16) × Reached (state-of true h scale k g z₀ digits₀) j digits z before sums
     × Counted (state-of true h scale k g z₀ digits₀) j times
 
 abbrev μ-loop : tie.MeasureT-loop
-μ-loop h scale k made choices g z₀ digits₀ n r q bits starts ends firsts before₀ chosen₀ sums₀ times₀ j₀ z digits before chosen sums times j = made - j
+μ-loop h scale k made choices g z₀ digits₀ n r q bits starts ends firsts nexts before₀ chosen₀ sums₀ times₀ j₀ z digits before chosen sums times j = made - j
 
 radix-by-shift-requires : tie.Need-radix-by-shift-requires Inv-loop μ-loop
 radix-by-shift-requires c κs = c .pre .0 .passes .limits .code-most
@@ -35,15 +35,18 @@ column-ends-requires : tie.Need-column-ends-requires Inv-loop μ-loop
 column-ends-requires c κs = (c .before .before .before .before .before .before .pre .0 .passes .limits .order-most, refl)
 
 column-firsts-requires : tie.Need-column-firsts-requires Inv-loop μ-loop
-column-firsts-requires c κs = (c .before .before .before .before .before .before .before .before .before .pre .0 .passes .limits .order-most, refl)
+column-firsts-requires c κs = (c .before .before .before .before .before .before .before .before .before .pre .0 .passes .limits .order-most, c .before .before .before .before .column-starts .ensures, refl)
+
+column-nexts-requires : tie.Need-column-nexts-requires Inv-loop μ-loop
+column-nexts-requires c κs = (c .before .before .before .before .before .before .before .before .before .before .before .before .before .pre .0 .passes .limits .order-most, c .before .before .before .before .before .before .before .before .column-starts .ensures, c .before .before .before .before .before .before .column-ends .ensures, refl)
 
 last-digits-requires : tie.Need-last-digits-requires Inv-loop μ-loop
-last-digits-requires c κs = let b = c .before .before .before .before .before .before .before .before .before .before .before .pre .0 in (omega (arith, steps-have-room b), b .passes .limits .order-most)
+last-digits-requires c κs = let b = c .before .before .before .before .before .before .before .before .before .before .before .before .before .before .before .pre .0 in (omega (arith, steps-have-room b), b .passes .limits .order-most)
 
 -- ---- the first sums
 
 abbrev start : tie.After-last-digits Inv-loop μ-loop → tie.Start Inv-loop μ-loop
-start d = d .before .before .before .before .before .before .before .before .before .before .before .before
+start d = d .before .before .before .before .before .before .before .before .before .before .before .before .before .before .before .before
 
 first-sums-requires : tie.Need-first-sums-requires Inv-loop μ-loop
 first-sums-requires c κs = let d = c .before in may-sum-first (start d .pre .0 .passes) (d .last-digits .ensures)
@@ -72,21 +75,22 @@ add-step-by-spans c = omega (arith, steps-have-room (start (begun c) .pre .0), c
 
 step-by-spans-requires : tie.Need-step-by-spans-requires Inv-loop μ-loop
 step-by-spans-requires c κs =
-    let i = c .before .before .before .before .before .before .before in
+    let i = c .before .before .before .before .before .before .before .before in
     let d = begun i in
     let v = i .before .loop .inv in (
-      reached-may (start d .pre .0) (i .loop-test .taken) (v .2) _ _ _ (d .before .before .before .before .before .before .before .before .before .before .before .radix-by-shift .ensures)
-          (d .before .before .before .before .before .before .before .before .before .before .sum-factor .ensures) (d .before .before .before .before .before .before .before .before .before .inner-bits .ensures),
-      d .before .before .before .before .before .before .before .column-starts .ensures,
-      d .before .before .before .before .before .column-ends .ensures,
-      d .before .before .column-firsts .ensures,
+      reached-may (start d .pre .0) (i .loop-test .taken) (v .2) _ _ _ (d .before .before .before .before .before .before .before .before .before .before .before .before .before .before .before .radix-by-shift .ensures)
+          (d .before .before .before .before .before .before .before .before .before .before .before .before .before .before .sum-factor .ensures) (d .before .before .before .before .before .before .before .before .before .before .before .before .before .inner-bits .ensures),
+      d .before .before .before .before .before .before .before .before .before .before .before .column-starts .ensures,
+      d .before .before .before .before .before .before .before .before .before .column-ends .ensures,
+      d .before .before .before .before .before .before .column-firsts .ensures,
+      d .before .before .column-nexts .ensures,
       v .1,
       start d .pre .1,
       may-count (v .3) (omega (arith, steps-have-room (start d .pre .0), i .loop-test .taken)),
     )
 
 abbrev taken : tie.After-step-by-spans Inv-loop μ-loop → tie.In-loop Inv-loop μ-loop
-taken c = c .before .before .before .before .before .before .before .before
+taken c = c .before .before .before .before .before .before .before .before .before
 
 add-j : tie.Need-add-j Inv-loop μ-loop
 add-j c = let i = taken c in omega (arith, steps-have-room (start (begun i) .pre .0), i .loop-test .taken)
@@ -111,7 +115,7 @@ run l = l .before .before .before .before .before
 entries-requires : tie.Need-entries-requires Inv-loop μ-loop
 entries-requires c κs =
     let d = run (c .before .before .before .before) in
-    (start d .pre .0 .passes .limits .order-most, d .before .before .before .before .before .before .before .column-starts .ensures, d .before .before .before .before .before .column-ends .ensures, refl)
+    (start d .pre .0 .passes .limits .order-most, d .before .before .before .before .before .before .before .before .before .before .before .column-starts .ensures, d .before .before .before .before .before .before .before .before .before .column-ends .ensures, refl)
 
 add-additions : tie.Need-add-additions Inv-loop μ-loop
 add-additions c =
@@ -152,6 +156,7 @@ run-by-spans-spec =
     column-starts-requires
     column-ends-requires
     column-firsts-requires
+    column-nexts-requires
     last-digits-requires
     first-sums-requires
     first-times-requires

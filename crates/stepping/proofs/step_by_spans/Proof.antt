@@ -5,7 +5,7 @@ use Rattle.stepping.proofs.step_by_spans.Statement.{statement}
 use Rattle.stepping.proofs.step_by_spans.Tie as tie
 
 choose-requires : tie.Need-choose-requires
-choose-requires c κs = let p = c .before .before .before .before .pre in may-choose (p .0) refl (p .5)
+choose-requires c κs = let p = c .before .before .before .before .pre in may-choose (p .0) refl (p .6)
 
 abbrev start : tie.After-choose → tie.Start
 start d = d .before .before .before .before .before
@@ -15,10 +15,10 @@ column-sums-requires c κs =
     let d = c .before .before in
     let p = start d .pre in
     let l = p .0 .may .passes .limits in
-    (l .order-least, l .order-most, p .4, may-sum (p .0) refl (d .choose .ensures .0), p .1, p .2, p .3)
+    (l .order-least, l .order-most, p .5, may-sum (p .0) refl (d .choose .ensures .0), p .1, p .2, p .3, p .4)
 
 count-digits-requires : tie.Need-count-digits-requires
-count-digits-requires c κs = let p = start (c .before .before .before .before .before) .pre in (p .0 .may .passes .limits .order-most, p .6)
+count-digits-requires c κs = let p = start (c .before .before .before .before .before) .pre in (p .0 .may .passes .limits .order-most, p .7)
 
 returns : tie.Need-returns
 returns c =

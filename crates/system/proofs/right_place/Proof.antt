@@ -1,7 +1,7 @@
 -- By the kind. The places are small.
 use native.Mathlib.Omega.{arith}
+use Rattle.system.proofs.Numbers.{right-place-curve, right-place-system, right-place-first, right-place-next, place-small}
 use borrow.Author.Needs.{needs}
-use Rattle.system.proofs.Numbers.{right-place-curve, right-place-system, right-place-first, right-place-next, place-in-numbers}
 use Rattle.system.proofs.right_place.Statement.{statement}
 use Rattle.system.proofs.right_place.Tie as tie
 
@@ -15,10 +15,10 @@ add-result-2 : tie.Need-add-result-2
 add-result-2 c = search needs
 
 mul-result : tie.Need-mul-result
-mul-result c = omega (arith, place-in-numbers (c .before .before .args .n) (c .before .before .args .i) (c .before .before .args .n) (c .before .before .pre .1) (omega arith) (c .before .before .pre .2))
+mul-result c = omega (arith, place-small (c .before .before .args .n) (c .before .before .args .i) (c .before .before .pre .1) (c .before .before .pre .2))
 
 add-result-3 : tie.Need-add-result-3
-add-result-3 c = omega (arith, place-in-numbers (c .before .before .args .n) (c .before .before .args .i) (c .before .before .args .n) (c .before .before .pre .1) (omega arith) (c .before .before .pre .2))
+add-result-3 c = omega (arith, place-small (c .before .before .args .n) (c .before .before .args .i) (c .before .before .pre .1) (c .before .before .pre .2))
 
 returns-2 : tie.Need-returns-2
 returns-2 c = right-place-system _ (c .before .before .args .n) _ (c .if2 .taken)
@@ -30,10 +30,10 @@ sub-result : tie.Need-sub-result
 sub-result c = search needs
 
 returns-3 : tie.Need-returns-3
-returns-3 c = right-place-first (c .before .before .before .args .kind) (c .before .before .before .args .n) _ (c .before .before .before .pre .0) (c .before .before .if1 .left) (c .before .if2 .left) (c .if3 .taken)
+returns-3 c = let st = c .before .before .before in right-place-first (st .args .kind) (st .args .n) (st .pre .0) (c .before .before .if1 .left) (c .before .if2 .left) _ (c .if3 .taken)
 
 returns-4 : tie.Need-returns-4
-returns-4 c = right-place-next (c .before .before .before .args .kind) (c .before .before .before .args .n) _ (c .before .before .before .pre .0) (c .before .before .if1 .left) (c .before .if2 .left) (c .if3 .left)
+returns-4 c = let st = c .before .before .before in right-place-next (st .args .kind) (st .args .n) (st .pre .0) (c .before .before .if1 .left) (c .before .if2 .left) _ (c .if3 .left)
 
 pub right-place-spec : {M : Type 1} → statement M
 right-place-spec =

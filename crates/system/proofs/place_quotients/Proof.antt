@@ -1,22 +1,22 @@
 -- After the turn for column i the array is the matrix of order i + 1.
-use mathlib.Core.Path.{_≡_}
+use mathlib.Core.Path.{_≡_, _∙_}
 use Prim.Native.Nat.{_*_, _-_, _≤_}
 use native.Mathlib.Omega.{arith}
 use Rattle.integers.specs.Flat.{flat-matrix}
 use Rattle.system.specs.System.{coefficient, subtrahend, quotients-entry}
 use Rattle.system.proofs.Numbers.{number-is}
 use Rattle.system.proofs.Quotients.{quotients-none, quotients-more}
-use Rattle.system.proofs.quotients_matrix.Statement.{statement}
-use Rattle.system.proofs.quotients_matrix.Tie as tie
+use Rattle.system.proofs.place_quotients.Statement.{statement}
+use Rattle.system.proofs.place_quotients.Tie as tie
 
 abbrev Inv-loop : tie.InvT-loop
-Inv-loop n v g₀ i₀ g i = (1 ≤ i) × (i ≤ n) × (g ≡ flat-matrix i (quotients-entry (coefficient v) (subtrahend v)))
+Inv-loop g₀ n v i₀ g i = (1 ≤ i) × (i ≤ n) × (g ≡ flat-matrix i (quotients-entry (coefficient v) (subtrahend v)))
 
 abbrev μ-loop : tie.MeasureT-loop
-μ-loop n v g₀ i₀ g i = n - i
+μ-loop g₀ n v i₀ g i = n - i
 
 loop-holds : tie.Need-loop-holds Inv-loop μ-loop
-loop-holds c = (omega arith, c .pre .0, quotients-none _ _)
+loop-holds c = (omega arith, c .pre .0, c .pre .3 ∙ quotients-none _ _)
 
 mul-g : tie.Need-mul-g Inv-loop μ-loop
 mul-g c = omega arith
@@ -33,8 +33,8 @@ shared-slice-copy-out-g c = omega (arith, c .before .before .pre .2 .enough)
 mul-g-3 : tie.Need-mul-g-3 Inv-loop μ-loop
 mul-g-3 c = omega arith
 
-array-set-from-g : tie.Need-array-set-from-g Inv-loop μ-loop
-array-set-from-g c = omega arith
+element-set-from-g : tie.Need-element-set-from-g Inv-loop μ-loop
+element-set-from-g c = omega arith
 
 mul-g-4 : tie.Need-mul-g-4 Inv-loop μ-loop
 mul-g-4 c = omega arith
@@ -45,17 +45,17 @@ mul-g-5 c = omega arith
 shared-slice-copy-out-g-2 : tie.Need-shared-slice-copy-out-g-2 Inv-loop μ-loop
 shared-slice-copy-out-g-2 c = omega (arith, c .before .before .before .pre .2 .enough)
 
-mul-g-6 : tie.Need-mul-g-6 Inv-loop μ-loop
-mul-g-6 c = omega arith
+mul-t8 : tie.Need-mul-t8 Inv-loop μ-loop
+mul-t8 c = omega arith
 
-add-g : tie.Need-add-g Inv-loop μ-loop
-add-g c = omega arith
+add-t7 : tie.Need-add-t7 Inv-loop μ-loop
+add-t7 c = omega arith
 
-mul-g-7 : tie.Need-mul-g-7 Inv-loop μ-loop
-mul-g-7 c = omega arith
+mul-t15 : tie.Need-mul-t15 Inv-loop μ-loop
+mul-t15 c = omega arith
 
-array-set-from-g-2 : tie.Need-array-set-from-g-2 Inv-loop μ-loop
-array-set-from-g-2 c = omega arith
+element-set-from-g-2 : tie.Need-element-set-from-g-2 Inv-loop μ-loop
+element-set-from-g-2 c = omega arith
 
 add-i : tie.Need-add-i Inv-loop μ-loop
 add-i c = omega arith
@@ -79,8 +79,8 @@ returns c =
     let e : l .i ≡ c .before .before .args .n = omega arith in
     rw e at (l .inv .2)
 
-pub quotients-matrix-spec : {M : Type 1} → statement M
-quotients-matrix-spec =
+pub place-quotients-spec : {M : Type 1} → statement M
+place-quotients-spec =
     tie.close
     (tie.spec
     Inv-loop
@@ -91,14 +91,14 @@ quotients-matrix-spec =
     mul-g-2
     shared-slice-copy-out-g
     mul-g-3
-    array-set-from-g
+    element-set-from-g
     mul-g-4
     mul-g-5
     shared-slice-copy-out-g-2
-    mul-g-6
-    add-g
-    mul-g-7
-    array-set-from-g-2
+    mul-t8
+    add-t7
+    mul-t15
+    element-set-from-g-2
     add-i
     loop-less
     loop-again
