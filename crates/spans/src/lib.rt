@@ -72,23 +72,6 @@ pub fn column_ends(g: &[i64; ENTRIES], n: usize, hi: &mut [usize; ROWS])
     }
 }
 
-// For each column its entry in the row where it starts, in `firsts`.
-pub fn column_firsts<'a>(
-    g: &'a [i64; ENTRIES],
-    starts: &'a [usize; ROWS],
-    n: usize,
-    firsts: &mut [i64; ROWS],
-)
-    requires { ⌜ (n ≤ 16) × Starts n (now g) (now starts) × (length (now firsts) ≡ 16) ⌝ }
-    ensures { λ _. ⌜ Firsts n (now (g .entry)) (now (starts .entry)) (now (firsts .exit)) ⌝ }
-{
-    let mut j: usize = 0;
-    while j < n {
-        firsts[j] = g[16 * starts[j] + j];
-        j += 1;
-    }
-}
-
 // The first row after row lo and below hi in which column j has an entry other than 0; where there is none,
 // a row from hi on.
 fn column_next(g: &[i64; ENTRIES], j: usize, lo: usize, hi: usize) -> usize
@@ -105,20 +88,23 @@ fn column_next(g: &[i64; ENTRIES], j: usize, lo: usize, hi: usize) -> usize
     next
 }
 
-// For each column the row of its second entry, in `nexts`. Most columns of a curve have none, and a step then
-// need not look into the matrix.
-pub fn column_nexts<'a>(
+// For each column its entry in the row where it starts, in `firsts`, and the row of its next one, in `nexts`.
+// Most columns of a curve have no other, and a step then need not look into the matrix.
+pub fn column_firsts<'a>(
     g: &'a [i64; ENTRIES],
     starts: &'a [usize; ROWS],
     ends: &'a [usize; ROWS],
     n: usize,
+    firsts: &mut [i64; ROWS],
     nexts: &mut [usize; ROWS],
 )
-    requires { ⌜ (n ≤ 16) × Starts n (now g) (now starts) × Ends n (now g) (now ends) × (length (now nexts) ≡ 16) ⌝ }
-    ensures { λ _. ⌜ Nexts n (now (g .entry)) (now (starts .entry)) (now (nexts .exit)) ⌝ }
+    requires { ⌜ (n ≤ 16) × Starts n (now g) (now starts) × Ends n (now g) (now ends) × (length (now firsts) ≡ 16) × (length (now nexts) ≡ 16) ⌝ }
+    ensures firsts { λ _. ⌜ Firsts n (now (g .entry)) (now (starts .entry)) (now (firsts .exit)) ⌝ }
+    ensures nexts { λ _. ⌜ Nexts n (now (g .entry)) (now (starts .entry)) (now (nexts .exit)) ⌝ }
 {
     let mut j: usize = 0;
     while j < n {
+        firsts[j] = g[16 * starts[j] + j];
         nexts[j] = column_next(g, j, starts[j], ends[j]);
         j += 1;
     }

@@ -129,9 +129,8 @@ fn run_by_spans(
     let mut ends = [0usize; ROWS];
     spans::column_ends(g, n, &mut ends);
     let mut firsts = [0i64; ROWS];
-    spans::column_firsts(g, &starts, n, &mut firsts);
     let mut nexts = [0usize; ROWS];
-    spans::column_nexts(g, &starts, &ends, n, &mut nexts);
+    spans::column_firsts(g, &starts, &ends, n, &mut firsts, &mut nexts);
     let mut before = last_digits(digits, k, n);
     let mut chosen = [0i8; ROWS];
     let mut sums = first_sums(g, &before, n, k);

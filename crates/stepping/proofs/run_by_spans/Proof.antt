@@ -35,18 +35,16 @@ column-ends-requires : tie.Need-column-ends-requires Inv-loop μ-loop
 column-ends-requires c κs = (c .before .before .before .before .before .before .pre .0 .passes .limits .order-most, refl)
 
 column-firsts-requires : tie.Need-column-firsts-requires Inv-loop μ-loop
-column-firsts-requires c κs = (c .before .before .before .before .before .before .before .before .before .pre .0 .passes .limits .order-most, c .before .before .before .before .column-starts .ensures, refl)
-
-column-nexts-requires : tie.Need-column-nexts-requires Inv-loop μ-loop
-column-nexts-requires c κs = (c .before .before .before .before .before .before .before .before .before .before .before .before .before .pre .0 .passes .limits .order-most, c .before .before .before .before .before .before .before .before .column-starts .ensures, c .before .before .before .before .before .before .column-ends .ensures, refl)
+column-firsts-requires c κs =
+    (c .before .before .before .before .before .before .before .before .before .before .before .pre .0 .passes .limits .order-most, c .before .before .before .before .before .before .column-starts .ensures, c .before .before .before .before .column-ends .ensures, refl, refl)
 
 last-digits-requires : tie.Need-last-digits-requires Inv-loop μ-loop
-last-digits-requires c κs = let b = c .before .before .before .before .before .before .before .before .before .before .before .before .before .before .before .pre .0 in (omega (arith, steps-have-room b), b .passes .limits .order-most)
+last-digits-requires c κs = let b = c .before .before .before .before .before .before .before .before .before .before .before .before .before .pre .0 in (omega (arith, steps-have-room b), b .passes .limits .order-most)
 
 -- ---- the first sums
 
 abbrev start : tie.After-last-digits Inv-loop μ-loop → tie.Start Inv-loop μ-loop
-start d = d .before .before .before .before .before .before .before .before .before .before .before .before .before .before .before .before
+start d = d .before .before .before .before .before .before .before .before .before .before .before .before .before .before
 
 first-sums-requires : tie.Need-first-sums-requires Inv-loop μ-loop
 first-sums-requires c κs = let d = c .before in may-sum-first (start d .pre .0 .passes) (d .last-digits .ensures)
@@ -78,12 +76,12 @@ step-by-spans-requires c κs =
     let i = c .before .before .before .before .before .before .before .before in
     let d = begun i in
     let v = i .before .loop .inv in (
-      reached-may (start d .pre .0) (i .loop-test .taken) (v .2) _ _ _ (d .before .before .before .before .before .before .before .before .before .before .before .before .before .before .before .radix-by-shift .ensures)
-          (d .before .before .before .before .before .before .before .before .before .before .before .before .before .before .sum-factor .ensures) (d .before .before .before .before .before .before .before .before .before .before .before .before .before .inner-bits .ensures),
-      d .before .before .before .before .before .before .before .before .before .before .before .column-starts .ensures,
-      d .before .before .before .before .before .before .before .before .before .column-ends .ensures,
-      d .before .before .before .before .before .before .column-firsts .ensures,
-      d .before .before .column-nexts .ensures,
+      reached-may (start d .pre .0) (i .loop-test .taken) (v .2) _ _ _ (d .before .before .before .before .before .before .before .before .before .before .before .before .before .radix-by-shift .ensures)
+          (d .before .before .before .before .before .before .before .before .before .before .before .before .sum-factor .ensures) (d .before .before .before .before .before .before .before .before .before .before .before .inner-bits .ensures),
+      d .before .before .before .before .before .before .before .before .before .column-starts .ensures,
+      d .before .before .before .before .before .before .before .column-ends .ensures,
+      d .before .before .column-firsts .ensures .0,
+      d .before .before .column-firsts .ensures .1,
       v .1,
       start d .pre .1,
       may-count (v .3) (omega (arith, steps-have-room (start d .pre .0), i .loop-test .taken)),
@@ -115,7 +113,7 @@ run l = l .before .before .before .before .before
 entries-requires : tie.Need-entries-requires Inv-loop μ-loop
 entries-requires c κs =
     let d = run (c .before .before .before .before) in
-    (start d .pre .0 .passes .limits .order-most, d .before .before .before .before .before .before .before .before .before .before .before .column-starts .ensures, d .before .before .before .before .before .before .before .before .before .column-ends .ensures, refl)
+    (start d .pre .0 .passes .limits .order-most, d .before .before .before .before .before .before .before .before .before .column-starts .ensures, d .before .before .before .before .before .before .before .column-ends .ensures, refl)
 
 add-additions : tie.Need-add-additions Inv-loop μ-loop
 add-additions c =
@@ -156,7 +154,6 @@ run-by-spans-spec =
     column-starts-requires
     column-ends-requires
     column-firsts-requires
-    column-nexts-requires
     last-digits-requires
     first-sums-requires
     first-times-requires
