@@ -1,5 +1,6 @@
--- Demand 3 on the sum of quotients that document 02 gives: from the statement alone, the exact value of row 1,
--- how near the last reading lies to it, and the additions that calls counted, with the most that they can be.
+-- Demand 3 on the sum of quotients that document 02 gives: from the statement alone, the exact value of row
+-- 1, how near the last reading lies to it, and the additions that calls counted, with the most that they can
+-- be.
 use mathlib.Core.Path.{_≡_, refl, ap, _∙_}
 use mathlib.Core.Bool.{true}
 use mathlib.Core.List.{List, [], _∷_}

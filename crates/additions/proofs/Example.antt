@@ -26,8 +26,8 @@ G = matrix rational 3 16 curve
 abbrev rows : List ℤ
 rows = pos 13 ∷ pos 2 ∷ pos 8 ∷ pos 5 ∷ pos 14 ∷ pos 1 ∷ []
 
--- A sum of quotients of order 3: c_0 4, then c_1 1, a_1 8 and b_1 2, then c_2 2, a_2 5 and b_2 -3. The rows of
--- G are 0 1 2, 0 2 0 and 0 0 -3.
+-- A sum of quotients of order 3: c_0 4, then c_1 1, a_1 8 and b_1 2, then c_2 2, a_2 5 and b_2 -3. The rows
+-- of G are 0 1 2, 0 2 0 and 0 0 -3.
 abbrev shunts : List ℤ
 shunts = pos 4 ∷ pos 1 ∷ pos 8 ∷ pos 2 ∷ pos 2 ∷ pos 5 ∷ negsuc 2 ∷ []
 

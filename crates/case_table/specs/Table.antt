@@ -1,8 +1,8 @@
--- Document 01's cases, marked * or not, those of scales (document 02, request 1), one of the estimate (request
--- 3) and those of sums of quotients (request 7) as one table: what the definitions make of each frame, and the
--- exact values of its system (claim C10). Since request 3 the frames of A, B, C and E are refused by 8, and
--- each stands with a frame near it that still loads. The statements are proved in proofs/Holds.antt and
--- proofs/Values.antt, and the crate cases makes the calls and compares.
+-- Document 01's cases, marked * or not, those of scales (document 02, request 1), one of the estimate
+-- (request 3) and those of sums of quotients (request 7) as one table: what the definitions make of each
+-- frame, and the exact values of its system (claim C10). Since request 3 the frames of A, B, C and E are
+-- refused by 8, and each stands with a frame near it that still loads. The statements are proved in
+-- proofs/Holds.antt and proofs/Values.antt, and the crate cases makes the calls and compares.
 use mathlib.Core.{Path._≡_, Bool.cond, List.List, List.[], List._∷_, List.List·Memᴰ, List.map}
 use Prim.Native.Nat.{ℕ, zero, suc, _<_}
 use lib.{Dec.eqb, IntN.ℤ, IntN.pos, IntN.negℤ, ListN.length, ListN.replicate}

@@ -1,6 +1,6 @@
--- The value of a sum of quotients at orders 1, 2 and 3, its matrix, and document 02's example, for a reader to
--- hold against the formula. The same from the bytes of its frame on stands in accuracy's examples. Nothing is
--- built on this module.
+-- The value of a sum of quotients at orders 1, 2 and 3, its matrix, and document 02's example, for a reader
+-- to hold against the formula. The same from the bytes of its frame on stands in accuracy's examples. Nothing
+-- is built on this module.
 use mathlib.Core.Path.{_≡_, refl, ap, _∙_}
 use mathlib.Core.List.{List, [], _∷_}
 use Prim.Native.Nat.{ℕ, zero, suc, _<_}

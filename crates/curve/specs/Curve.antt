@@ -1,6 +1,6 @@
 -- The value of a curve as a fraction P / Q of whole numbers, and what is promised of it (document 01, "The
 -- system" and "One step"). Sums of quotients are curves too; their P and Q stand in Quotients.antt.
--- proofs/Value.antt proves each statement, proofs/Examples.antt spells them out.
+-- proofs/Value.antt proves each statement, proofs/Examples.antt and ExampleQuotients.antt spell them out.
 use mathlib.Core.{Path._≡_, Bool.Bool, Bool.true, Bool.false, List.List}
 use Prim.Native.Nat.{ℕ, suc, _*_, _-_, _<_, _≤_}
 use lib.{IntN.ℤ, IntN.pos, IntN._+ℤ_, IntN._*ℤ_, Signed._<ℤ_}

@@ -8,8 +8,9 @@ use Rattle.system.specs.System.{past-first}
 --
 --   c_0/u + (c_1/u) (a_1/u) / (1 - b_1/u) + .. + (c_(n-1)/u) (a_(n-1)/u) / (1 - b_(n-1)/u)
 --
--- in which c_i a_i stands over u (u - b_i). P and Q are what stands above and below the line when all of it is
--- brought over u (u - b_1) .. (u - b_(n-1)). Here a has c_0 in the place of an a_0, as the right-hand sides do.
+-- in which c_i a_i stands over u (u - b_i). P and Q are what stands above and below the line when all of it
+-- is brought over u (u - b_1) .. (u - b_(n-1)). Here a has c_0 in the place of an a_0, as the right-hand
+-- sides do.
 
 -- u - b_i, by which a_i is divided; row 0 has no quotient
 unfoldable pub divisor : (u : ℕ) (b : ℕ → ℤ) (i : ℕ) → ℤ

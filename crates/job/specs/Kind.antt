@@ -1,5 +1,5 @@
--- The kinds of a job (document 01, "Job frame", and document 02, request 7). What differs from kind to kind is
--- said by clauses over them: here how many numbers a kind has, in the crate `system` its matrix and its
+-- The kinds of a job (document 01, "Job frame", and document 02, request 7). What differs from kind to kind
+-- is said by clauses over them: here how many numbers a kind has, in the crate `system` its matrix and its
 -- right-hand sides, in the crate `curve` the exact value of its first row, and in the crate `additions` how
 -- many entries its matrix can have.
 use mathlib.Core.Bool.{Bool, true, false}

@@ -1,7 +1,7 @@
 // The rows' sums with the digits of the step before, one column after the other, each multiplied by its
 // digit. Of a column only its first entry is looked at, and the rows from its second one to its last: a
-// curve's columns have one entry or two, but for column 0. A column whose digit is 0 is skipped: its rows keep
-// their sums.
+// curve's columns have one entry or two, but for column 0. A column whose digit is 0 is skipped: its rows
+// keep their sums.
 ghost use mathlib.Core.Path.{_≡_};
 ghost use Prim.Native.Nat.{_<_, _≤_};
 ghost use lib.ListN.{length};
@@ -10,8 +10,9 @@ ghost use Rattle.spans.specs.Inner.{Summed, MaySumRows, Start, Starts, F
 use job::ROWS;
 use system::ENTRIES;
 
-// The first row below n in which column j has an entry other than 0, or the last row where there is none. Rows
-// are looked at two in a turn, which takes less time; an odd n leaves the last row, which is then given unseen.
+// The first row below n in which column j has an entry other than 0, or the last row where there is none.
+// Rows are looked at two in a turn, which takes less time; an odd n leaves the last row, which is then given
+// unseen.
 fn column_start(g: &[i64; ENTRIES], j: usize, n: usize) -> usize
     requires { ⌜ (j < 16) × (1 ≤ n) × (n ≤ 16) ⌝ }
     ensures { λ lo. ⌜ Start n (now (g .entry)) j lo ⌝ }
@@ -123,7 +124,7 @@ fn first_products(g: &[i64; ENTRIES], d: i64, n: usize, s: &mut [i64; ROWS])
 }
 
 // Begins the sums of the rows below n with column 0, whose digit is d. It has no entry before row lo and none
-// from row hi on; that of a polynomial has none at all, and then the sums begin with 0.
+// from row hi on; that of a polynomial or a sum of quotients has none at all, and then the sums begin with 0.
 fn begin_sums(g: &[i64; ENTRIES], lo: usize, hi: usize, d: i64, n: usize, s: &mut [i64; ROWS])
     requires { ⌜ (n ≤ 16) × MayBegin n (now g) d × Start n (now g) 0 lo × End n (now g) 0 hi × (length (now s) ≡ 16) ⌝ }
     ensures { λ _. ⌜ Begun n (now (g .entry)) d (now (s .exit)) ⌝ }

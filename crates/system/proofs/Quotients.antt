@@ -1,6 +1,6 @@
--- The matrix of a sum of quotients: its entries, and how it is stored column by column. That of one order more
--- has two numbers more, in row 0 and on the diagonal. Cited by the proof of `place_quotients` and by those on
--- its value and its entries.
+-- The matrix of a sum of quotients: its entries, and how it is stored column by column. That of one order
+-- more has two numbers more, in row 0 and on the diagonal. Cited by the proof of `place_quotients` and by
+-- those on its value and its entries.
 use mathlib.Core.Path.{_≡_, refl, sym, _∙_}
 use mathlib.Core.List.{List}
 use mathlib.Core.Logic.{_⊎_, inl, inr}

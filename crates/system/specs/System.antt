@@ -15,7 +15,7 @@ abbrev pub past-first : (ℕ → ℤ) → ℕ → ℤ
 past-first q zero = pos 0
 past-first q (suc i) = q (suc i)
 
--- ---- a curve: x, then p_0 to p_(n-1), then for a rational curve q_1 to q_(n-1); q_0 is 1 and is not sent
+-- ---- a polynomial or a rational curve: x, then p_0 to p_(n-1), then for a rational curve q_1 to q_(n-1)
 
 -- +x in the column after the diagonal, and -q_i in the first column of every row but the first. The last row
 -- has no column for x, so at n = 1 the argument has no effect.
@@ -30,7 +30,7 @@ argument v = sent v 0
 abbrev pub numerator : List ℤ → ℕ → ℤ
 numerator v i = sent v (1 + i)
 
--- q_i of a rational curve of order n, for i from 1
+-- q_i of a rational curve of order n, for i from 1; q_0 is 1 and is not sent
 abbrev pub denominator : ℕ → List ℤ → ℕ → ℤ
 denominator n v i = sent v (n + i)
 

@@ -84,7 +84,8 @@ fn place_rows(g: &mut [i64; ENTRIES], n: usize, u: u64, v: &[i64])
 }
 
 // Stores the matrix of a sum of quotients in an array of zeros: in every column but the first, c in row 0 and
-// b on the diagonal. The matrix of order i has no number of column i, so each turn leaves that of order i + 1.
+// b on the diagonal. The matrix of order i has no number of column i, so each turn leaves that of one order
+// more.
 fn place_quotients(g: &mut [i64; ENTRIES], n: usize, v: &[i64])
     requires { ⌜ (1 ≤ n) × (n ≤ 16) × Numbers (3 * n - 2) (now v) × (now g ≡ zeros) ⌝ }
     ensures { λ _. ⌜ now (g .exit) ≡ flat-matrix n (quotients-entry (coefficient (now (v .entry))) (subtrahend (now (v .entry)))) ⌝ }
@@ -97,8 +98,8 @@ fn place_quotients(g: &mut [i64; ENTRIES], n: usize, v: &[i64])
     }
 }
 
-// Stores the matrix G of a job, from the numbers as they are sent, in an array of zeros. The array is lent, so
-// that its 2 KB are not copied on the way to where they are kept.
+// Stores the matrix G of a job, from the numbers as they are sent, in an array of zeros. The array is lent,
+// so that its 2 KB are not copied on the way to where they are kept.
 pub fn place_matrix(g: &mut [i64; ENTRIES], h: Header, v: &[i64])
     requires { ⌜ Limits h × Numbers (count h) (now v) × (now g ≡ zeros) ⌝ }
     ensures { λ _. ⌜ now (g .exit) ≡ flat-matrix (h .n) (matrix-of h (now (v .entry))) ⌝ }

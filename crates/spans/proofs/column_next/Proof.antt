@@ -1,5 +1,5 @@
--- The invariant: the column has no entry other than 0 after row lo and before row next. The measure is what is
--- left of the rows.
+-- The invariant: the column has no entry other than 0 after row lo and before row next. The measure is what
+-- is left of the rows.
 use mathlib.Core.Path.{_≡_}
 use Prim.Native.Nat.{_+_, _-_, _<_}
 use native.Mathlib.Omega.{arith}
