@@ -73,9 +73,9 @@ module _ (m : ℕ) (c b : ℕ → ℤ) where
   row i = total (suc m) (λ j. nonzero (quotients-entry c b i j))
 
   -- the first row has none in its first column
-  first-row : row 0 ≤ m
+  row-0-entries : row 0 ≤ m
   unfolding quotients-entry
-  first-row =
+  row-0-entries =
       omega (
         arith,
         total-head m (λ j. nonzero (quotients-entry c b 0 j)),
@@ -83,8 +83,8 @@ module _ (m : ℕ) (c b : ℕ → ℤ) where
       )
 
   -- a later row has one, on the diagonal
-  later-row : (i : ℕ) → i < m → row (suc i) ≤ 1
-  later-row i l =
+  later-entries : (i : ℕ) → i < m → row (suc i) ≤ 1
+  later-entries i l =
       omega (
         arith,
         total-one (suc m) (suc i) (λ j. nonzero (quotients-entry c b (suc i) j)) (omega arith) (λ j k h. rw (off-diagonal c b (suc i) j (omega arith) h)),
@@ -93,7 +93,7 @@ module _ (m : ℕ) (c b : ℕ → ℤ) where
 
   quotients-entries : entries (suc m) (quotients-entry c b) ≤ 2 * m
   unfolding entries
-  quotients-entries = omega (arith, total-head m row, first-row, total-le m (λ i. row (suc i)) 1 later-row)
+  quotients-entries = omega (arith, total-head m row, row-0-entries, total-le m (λ i. row (suc i)) 1 later-entries)
 
 pub entries-most : EntriesMost
 unfolding matrix entries

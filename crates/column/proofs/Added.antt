@@ -1,5 +1,5 @@
 -- A column added to the rows' sums. Cited by the proofs of `sum_after`, `add_column` and `add_entries`, and,
--- from `Rows` on, where columns are added one after the other.
+-- from `AddedBelow` on, where columns are added one after the other.
 use mathlib.Core.Path.{_≡_, refl, sym, ap, _∙_}
 use mathlib.Core.List.{List}
 use mathlib.Core.Logic.{_⊎_, inl, inr}
@@ -121,12 +121,12 @@ module _ {g s : List ℤ} {e : ℤ} {j lo next hi : ℕ} {d : ℤ} (h : MayAddCo
 -- ---- one column more: from sums s over the columns below j to sums s′ over those below j + 1
 
 -- s′ has column j added in the rows below n, and is else as s
-pub record Rows (n j : ℕ) (g s s′ : List ℤ) (d : ℤ) : Type 0 where
+pub record AddedBelow (n j : ℕ) (g s s′ : List ℤ) (d : ℤ) : Type 0 where
   pub size : length s′ ≡ length s
   pub row : (i : ℕ) → i < n → at s′ i ≡ at s i +ℤ entry g i j *ℤ d
   pub past : (i : ℕ) → n ≤ i → at s′ i ≡ at s i
 
-pub column-next : {n j : ℕ} {g s s′ : List ℤ} (d : ℕ → ℤ) → Rows n j g s s′ (d j) → ((i : ℕ) → i < n → at s i ≡ dot j (entry g i) d)
+pub column-next : {n j : ℕ} {g s s′ : List ℤ} (d : ℕ → ℤ) → AddedBelow n j g s s′ (d j) → ((i : ℕ) → i < n → at s i ≡ dot j (entry g i) d)
     → (i : ℕ) → i < n → at s′ i ≡ dot (j + 1) (entry g i) d
 column-next {j = j} {g = g} d r h i l = rw add-one (r .row i l ∙ rw (h i l) (sym (dot-suc j (entry g i) d)))
 
@@ -148,7 +148,7 @@ module _ (n j lo hi : ℕ) (g s s′ : List ℤ) (d : ℤ) (room : n ≤ length 
       let v = stores-at s (λ t. lo + t) (column-added g j lo d s) (hi - lo) (i - lo) (omega arith) (omega (arith, room)) (λ t x y z. omega arith) in
       rw e (rw p at v)
 
-  pub span-rows : Rows n j g s s′ d
+  pub span-rows : AddedBelow n j g s s′ d
   span-rows =
       record {
         size = rw e (length-stores s (λ t. lo + t) (column-added g j lo d s) (hi - lo));
@@ -192,7 +192,7 @@ module _ (n j lo next hi : ℕ) (g s s′ : List ℤ) (x d : ℤ) (room : n ≤ 
       let v = stores-at begun (λ t. next + t) (column-added g j next d begun) (hi - next) (i - next) (omega arith) (omega (arith, room, w)) (λ t y z r. omega arith) in
       rw e ((rw p at v) ∙ rw (begun-other i (λ r. omega arith)) refl)
 
-  pub entry-rows : Rows n j g s s′ d
+  pub entry-rows : AddedBelow n j g s s′ d
   entry-rows =
       record {
         size = rw e (length-stores begun (λ t. next + t) (column-added g j next d begun) (hi - next) ∙ length-set s lo (at s lo +ℤ x *ℤ d));

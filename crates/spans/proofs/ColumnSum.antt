@@ -17,7 +17,7 @@ use Rattle.integers.proofs.Maximum.{le-or-lt}
 use Rattle.integers.proofs.Normal.{solve, polys}
 use Rattle.integers.proofs.Product.{dot-zero, dot-suc, abs-dot, weight-le, entry-le-weight}
 use Rattle.column.specs.Column.{MayAddColumn, column-added, entries-added}
-use Rattle.column.proofs.Added.{Rows, column-next, span-rows, entry-rows}
+use Rattle.column.proofs.Added.{AddedBelow, column-next, span-rows, entry-rows}
 use Rattle.integers.specs.Flat.{filled}
 use Rattle.spans.specs.Inner.{row-dot, MaySum, MaySumRows, Start, End, Next, MayBegin, Begun, first-product}
 use Rattle.integers.proofs.Filled.{length-filled, filled-past, filled-row, at-zeros}
@@ -133,7 +133,7 @@ module _ {n : ℕ} {g d : List ℤ} (order : n ≤ 16) (h : MaySumRows n g d) wh
           digit = rw digit-is (h j l .digits j l);
         }
 
-    next-so-far : {s′ : List ℤ} → Rows n j g s s′ (at d j) → SoFar n (j + 1) g d s₀ s′
+    next-so-far : {s′ : List ℤ} → AddedBelow n j g s s′ (at d j) → SoFar n (j + 1) g d s₀ s′
     next-so-far r = record { size = r .size ∙ f .size; rows = column-next (at d) r (f .rows); past = λ i m. r .past i m ∙ f .past i m }
 
     -- `s′` is what `add_column` left

@@ -23,9 +23,9 @@ module _ (c b : ℕ → ℤ) where
 
   -- ---- the entries
 
-  first-row : (j : ℕ) → G 0 (suc j) ≡ c (suc j)
+  row-0-entry : (j : ℕ) → G 0 (suc j) ≡ c (suc j)
   unfolding quotients-entry
-  first-row j = refl
+  row-0-entry j = refl
 
   pub diagonal : (i : ℕ) → quotients-entry c b (suc i) (suc i) ≡ b (suc i)
   unfolding quotients-entry
@@ -86,7 +86,7 @@ module _ (c b : ℕ → ℤ) where
         getD-set-same with-first (16 * suc k + suc k) (b (suc k)) (pos 0) (rw (length-set before (suc k) (c (suc k)), size) (omega arith))
 
     last-column : (i : ℕ) → i < suc k → entry after i (suc k) ≡ G i (suc k)
-    last-column zero h = in-first-row ∙ sym (first-row k)
+    last-column zero h = in-first-row ∙ sym (row-0-entry k)
     last-column (suc i) h =
         other-place (suc i) (suc k) l (λ e f. omega arith) (λ e f. omega arith)
         ∙ past-order (suc k) G (suc i) (suc k) (omega arith) l (inr (omega arith))

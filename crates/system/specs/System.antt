@@ -43,7 +43,7 @@ no-denominator i = pos 0
 unfoldable pub system-entry : (u n : ℕ) (v : List ℤ) (i j : ℕ) → ℤ
 system-entry u n v i j = cond (eqb i j) (pos u) (pos 0) -ℤ sent v (i * (n + 1) + j)
 
--- ---- a sum of quotients, c_0 + Σ c_i a_i / (1 - b_i): c_0, then c_i, a_i and b_i together for each i from 1
+-- ---- a sum of quotients, c_0 + Σ c_i a_i / (1 - b_i): c_0, then c_i, a_i and b_i together for i from 1
 
 -- c_i and b_i, for i from 1; c_0 and the a_i are the right-hand sides
 abbrev pub coefficient : List ℤ → ℕ → ℤ
