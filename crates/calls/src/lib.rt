@@ -16,7 +16,7 @@ use state::DIGITS;
 
 // A refusal number, 0 where there is none, the row given with it, the scale s, the steps made, k, and the
 // additions that they cost. A reading stands for itself divided by r^k and multiplied by r^s.
-#[derive(Drop)]
+#[derive(Clone, Copy)]
 pub struct Evaluated {
     pub refusal: usize,
     pub row: usize,

@@ -11,7 +11,7 @@ use crate::Evaluated;
 use state::State;
 
 // What a call leaves: the state, the additions that it counted, and how many words of the list it got.
-#[derive(Drop)]
+#[derive(Clone, Copy)]
 struct Made {
     state: State,
     additions: usize,
@@ -19,7 +19,7 @@ struct Made {
 }
 
 // What a list of calls leaves: the state, and the additions that they counted in all.
-#[derive(Drop)]
+#[derive(Clone, Copy)]
 struct AllMade {
     state: State,
     additions: usize,

@@ -29,7 +29,7 @@ const MOST_SIZE: i64 = 1431;
 const FAR: usize = 10000;
 
 // What differs first between a run and its row.
-#[derive(Drop)]
+#[derive(Clone, Copy)]
 enum Part {
     Nothing,
     Refusal,

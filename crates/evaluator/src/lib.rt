@@ -34,7 +34,7 @@ use state::{DIGITS, State};
 use system::ENTRIES;
 
 // What load answers: a refusal number, 0 where there is none, the row given with it, and the state.
-#[derive(Drop)]
+#[derive(Clone, Copy)]
 pub struct Loaded {
     pub refusal: usize,
     pub row: usize,
@@ -43,7 +43,7 @@ pub struct Loaded {
 
 // What advance answers: a refusal number, 0 where there is none, the steps made, their additions, and the
 // state.
-#[derive(Drop)]
+#[derive(Clone, Copy)]
 pub struct Advanced {
     pub refusal: usize,
     pub made: u64,

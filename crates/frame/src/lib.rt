@@ -30,7 +30,7 @@ use system::ENTRIES;
 
 // What the frame reader answers: a refusal number, 0 where there is none, the row given with it, and the
 // header's fields.
-#[derive(Drop)]
+#[derive(Clone, Copy)]
 pub struct FrameRead {
     pub refusal: usize,
     pub row: usize,
@@ -39,7 +39,7 @@ pub struct FrameRead {
 
 // What is found of a job's system: the refusal number, 0 where there is none, the row given with it, and the
 // scale.
-#[derive(Drop)]
+#[derive(Clone, Copy)]
 pub struct Weighed {
     pub refusal: usize,
     pub row: usize,
@@ -48,7 +48,7 @@ pub struct Weighed {
 
 // What the frame writer answers: a refusal number, 0 where there is none, the row given with it, and the
 // number of bytes.
-#[derive(Drop)]
+#[derive(Clone, Copy)]
 pub struct FrameWritten {
     pub refusal: usize,
     pub row: usize,

@@ -22,6 +22,7 @@ refused→first c ((k, true) ∷ cs) h e = rw e (here tt)
 refused→first c ((k, false) ∷ cs) h e = later tt (refused→first c cs h e)
 
 first→refused : (c : ℕ) (cs : List Check) → First c cs → first_refusal cs ≡ c
+first→refused c [] x = elim x [ ]
 first→refused c ((k, true) ∷ cs) (here t) = refl
 first→refused c ((k, true) ∷ cs) (later t f) = absurd t
 first→refused c ((k, false) ∷ cs) (here t) = absurd t

@@ -38,7 +38,7 @@ pub const NUMBERS: usize = ROWS * (ROWS + 1);
 
 // The header of a job frame, with the order n as a number from 1: kind (0 polynomial, 1 rational, 2 system,
 // 3 sum of quotients), radix code, largest digit p, fraction bits f, order n, digits m.
-#[derive(Drop)]
+#[derive(Clone, Copy)]
 pub struct Header {
     pub kind: usize,
     pub code: usize,
@@ -49,7 +49,7 @@ pub struct Header {
 }
 
 // A refusal number of document 01, 0 where there is none, and the row that is given with it.
-#[derive(Drop)]
+#[derive(Clone, Copy)]
 pub struct Verdict {
     pub refusal: usize,
     pub row: usize,

@@ -18,7 +18,7 @@ const TEXT_ROOM: usize = 32768;
 
 // What print_frame answers: a refusal number of the call itself, 0 where there is none, and the number of
 // bytes put.
-#[derive(Drop)]
+#[derive(Clone, Copy)]
 pub struct Printed {
     pub refusal: usize,
     pub length: usize,

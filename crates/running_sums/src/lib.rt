@@ -20,7 +20,7 @@ use state::State;
 use system::ENTRIES;
 
 // What the call answers: a refusal number, 0 where there is none, and how many words it has written.
-#[derive(Drop)]
+#[derive(Clone, Copy)]
 pub struct SumsWritten {
     pub refusal: usize,
     pub count: usize,

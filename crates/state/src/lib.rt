@@ -17,7 +17,7 @@ pub const DIGITS: usize = STEPS * ROWS;
 // Idle, or a job: its header, its scale s, the steps made, the matrix (row i, column j at 16 i + j) in units
 // of 1 / 2^f, the residuals in units of 1 / (2^f × r^s), and the digits of all steps (step j, from 1, of row
 // i at 16 (j - 1) + i). The idle state has every number 0.
-#[derive(Drop)]
+#[derive(Clone, Copy)]
 pub struct State {
     pub busy: bool,
     pub header: Header,

@@ -99,7 +99,7 @@ module _ (limit room next : ℤ) (g : ℕ → ℤ) (j : ℕ) (r : RoomLeft limit
   entry_is = rw (to_z-of_z {w = w64} {z = g j} (record { sfits = f })) at e
 
   next_is : to_z w64 (of_z w64 next) ≡ next
-  next_is = to_z-of_z (record { sfits = k })
+  next_is = to_z-of_z {w = w64} {z = next} (record { sfits = k })
 
   pub room_next : lt_z (to_z w64 (of_z w64 next)) (pos 0) ≡ false → RoomLeft limit (to_z w64 (of_z w64 next)) (weight (j + 1) g)
   room_next t = rw (add-one, weight-suc, next_is) (room-more limit room next (weight j g) (nat_abs (g j)) r entry_is (rw next_is at t))

@@ -13,7 +13,7 @@ use selection::ESTIMATES;
 const TABLE_ROOM: usize = 4096;
 
 // What write_table answers: a refusal number, 0 where there is none, and the number of bytes put.
-#[derive(Drop)]
+#[derive(Clone, Copy)]
 pub struct TableWritten {
     pub refusal: usize,
     pub length: usize,
@@ -21,7 +21,7 @@ pub struct TableWritten {
 
 // What compare_table answers: whether the text is the table's, and how many entries agree before the first
 // that does not.
-#[derive(Drop)]
+#[derive(Clone, Copy)]
 pub struct Compared {
     pub same: bool,
     pub agreeing: usize,

@@ -37,7 +37,7 @@ const HEAD_BITS: usize = 30;
 
 // The header fields, the steps made k, and the digits: step j, from 1, of row i at 16 (j - 1) + i. A record
 // that a call gives has 0 past step k and past row n.
-#[derive(Drop)]
+#[derive(Clone, Copy)]
 pub struct Record {
     pub header: Header,
     pub k: usize,
@@ -46,14 +46,14 @@ pub struct Record {
 
 // What the trace reader and the record of a state answer: a refusal number, 0 where there is none, and a
 // record, which is one of zeros with a refusal.
-#[derive(Drop)]
+#[derive(Clone, Copy)]
 pub struct Recorded {
     pub refusal: usize,
     pub trace: Record,
 }
 
 // What the trace writer answers: a refusal number, 0 where there is none, and the number of bytes.
-#[derive(Drop)]
+#[derive(Clone, Copy)]
 pub struct TraceWritten {
     pub refusal: usize,
     pub length: usize,

@@ -1,0 +1,13 @@
+-- `bitfields::fill_is_zero` meets its contract: the bits left over are the low ones of the last byte.
+use Rattle.bitfields.proofs.Spelling.{slice_bytes}
+use Rattle.bitfields.proofs.Steps.{last-fill}
+use Rattle.bitfields.proofs.fill_is_zero.Goals as goal
+
+pub returns : goal.returns
+returns c =
+    let s = c in
+    rw (
+      c.pow2.ensures,
+      c.from_byte.ensures,
+      last-fill s.args.b (slice_bytes s.args.s.now c.shared_slice_known-2-1.given) s.requires.0 s.requires.1,
+    )

@@ -1,0 +1,18 @@
+use mathlib.Core.Path.{refl, sym}
+use Prim.Native.Nat.{◌-◌}
+use native.Mathlib.Omega.{arith}
+use mir.Syntax.{w64}
+use mir.Val.{to_z, of_z}
+use Rattle.integers.proofs.Stores.{stores-zero}
+use Rattle.system.proofs.Arrays.{stores-more}
+use Rattle.system.proofs.Setup.{argument_place}
+use Rattle.system.proofs.place_argument.Goals as goal
+
+pub loop-i-init : goal.loop-i-init
+loop-i-init c = (omega arith, sym (stores-zero _ _ _))
+
+pub loop-i-preserved : goal.loop-i-preserved
+loop-i-preserved c =
+    let st = c in
+    let l = c.loop-i in
+    (omega arith, stores-more _ argument_place (λ t. to_z w64 (of_z w64 st.args.x)) l.i l.g _ l.invariant.1 refl)

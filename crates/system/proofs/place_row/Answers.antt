@@ -1,0 +1,20 @@
+use mathlib.Core.Path.{sym}
+use Prim.Native.Nat.{◌+◌, ◌*◌, ◌-◌}
+use native.Mathlib.Omega.{arith}
+use Rattle.integers.proofs.Stores.{stores-zero}
+use Rattle.system.specs.System.{system_entry}
+use Rattle.system.proofs.Numbers.{entry_read}
+use Rattle.system.proofs.Arrays.{stores-more}
+use Rattle.system.proofs.place_row.Goals as goal
+
+pub loop-j-init : goal.loop-j-init
+loop-j-init c = (omega arith, sym (stores-zero _ _ _))
+
+pub loop-j-preserved : goal.loop-j-preserved
+loop-j-preserved c =
+    let st = c in
+    let l = c.loop-j in (
+      omega arith,
+      stores-more _ (λ j. 16 * st.args.i + j) _ l.j l.g _ l.invariant.1
+          (entry_read st.args.u st.args.n st.args.v.now st.args.i l.j _ st.requires.3 st.requires.0 c.loop-j-test.true c.system_entry.type_inv c.system_entry.ensures),
+    )
