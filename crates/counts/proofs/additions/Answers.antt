@@ -1,0 +1,26 @@
+use mathlib.Core.Path.{sym}
+use Prim.Native.Nat.{◌-◌}
+use native.Mathlib.Omega.{arith}
+use Rattle.integers.proofs.Sum.{total-zero}
+use Rattle.state.specs.State.{digits_of}
+use Rattle.counts.proofs.Counting.{product_small, additions-small, additions-next}
+use Rattle.counts.proofs.additions.Goals as goal
+
+pub loop-j-init : goal.loop-j-init
+loop-j-init c = (omega arith, sym (total-zero _))
+
+pub overflow_add-a : goal.overflow_add-a
+overflow_add-a c =
+    let i = c in
+    let s = i in
+    let l = i.loop-j in
+    let d = digits_of s.args.digits.now s.args.k in
+    omega
+    (arith, product_small s.args.e.now s.args.t.now d s.requires.2 l.j i.loop-j-test.true c.added_after.ensures, l.invariant.1, additions-small s.args.e.now s.args.t.now d s.requires.2 s.requires.1 l.j l.invariant.0)
+
+pub loop-j-preserved : goal.loop-j-preserved
+loop-j-preserved c =
+    let i = c in
+    let s = i in
+    let l = i.loop-j in
+    (omega arith, additions-next s.args.e.now s.args.t.now (digits_of s.args.digits.now s.args.k) s.requires.2 l.j l.invariant.1 c.added_after.ensures)

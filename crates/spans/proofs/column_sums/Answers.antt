@@ -1,0 +1,38 @@
+use mathlib.Core.Path.{◌∙◌}
+use Prim.Native.Nat.{◌-◌}
+use native.Mathlib.Omega.{arith}
+use Rattle.integers.proofs.Machine.{i64_kept}
+use Rattle.spans.proofs.ColumnSum.{may_begin, sums_begun, may-add-entries, entries-more}
+use Rattle.spans.proofs.column_sums.Goals as goal
+
+pub begin_sums-requires : goal.begin_sums-requires
+begin_sums-requires c =
+    let p = c.requires in
+    (p.1, may_begin p.1 p.3 p.0 _ c.widen.ensures, p.4 0 p.0, p.5 0 p.0, p.2)
+
+pub loop-j-init : goal.loop-j-init
+loop-j-init c =
+    let a = c in
+    (a.requires.0, sums_begun a.requires.1 a.requires.3 a.requires.0 _ c.widen.ensures c.begin_sums.ensures)
+
+pub add_entries-requires : goal.add_entries-requires
+add_entries-requires c =
+    let e = c in
+    let i = e in
+    let a = i in
+    let l = i.loop-j in
+    let m = i.loop-j-test.true in
+    may-add-entries a.requires.1 a.requires.3 m l.invariant.1 _ c.widen-in-loop-j.ensures (a.requires.4 l.j m) (a.requires.5 l.j m) (a.requires.7 l.j m)
+    (i64_kept _ e.add_entries-arg-1.given ∙ a.requires.6 l.j m)
+
+pub loop-j-preserved : goal.loop-j-preserved
+loop-j-preserved c =
+    let e = c in
+    let i = e in
+    let a = i in
+    let l = i.loop-j in
+    let m = i.loop-j-test.true in (
+      omega arith,
+      entries-more a.requires.1 a.requires.3 m l.invariant.1 _ c.widen-in-loop-j.ensures (a.requires.4 l.j m) (a.requires.5 l.j m) (a.requires.7 l.j m)
+          (i64_kept _ e.add_entries-arg-1.given ∙ a.requires.6 l.j m) c.add_entries.ensures,
+    )
