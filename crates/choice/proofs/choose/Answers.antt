@@ -1,0 +1,20 @@
+use Prim.Native.Nat.{◌-◌}
+use native.Mathlib.Omega.{arith}
+use Rattle.choice.proofs.Chosen.{chosen_none, may_choose_next, chosen_next}
+use Rattle.choice.proofs.choose.Goals as goal
+
+pub loop-i-init : goal.loop-i-init
+loop-i-init c = (omega arith, chosen_none)
+
+pub choose_row-requires : goal.choose_row-requires
+choose_row-requires c =
+    let i = c in
+    let l = i.loop-i in
+    let p = i.requires in
+    let t = i.loop-i-test.true in
+    (p.0, omega (arith, t, p.4.order), p.1, p.2, p.3, may_choose_next l.invariant.1 (p.4.rows l.i t))
+
+pub loop-i-preserved : goal.loop-i-preserved
+loop-i-preserved c =
+    let e = c.choose_row.ensures in
+    (omega arith, chosen_next c.loop-i.invariant.1 e.newest e.stored e.residual)
