@@ -1,0 +1,10 @@
+-- `trace::digit_bits` meets its contract. Assumes nothing.
+use mathlib.Core.Path.{◌∙◌}
+use Rattle.trace.proofs.Digit.{digit_bits_are}
+use Rattle.integers.proofs.Machine.{i8_kept}
+use Rattle.trace.proofs.eights.digit_bits.Goals as goal
+
+pub returns : goal.returns
+returns c =
+    let w = c in
+    digit_bits_are w.args.z w.widen.result w.ranges.z.sfits (w.widen.ensures ∙ i8_kept _ w.ranges.z.sfits) c.to_unsigned.result c.to_unsigned.ensures

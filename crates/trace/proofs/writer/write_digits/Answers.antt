@@ -1,0 +1,17 @@
+-- `trace::write_digits` meets its contract. Assumes nothing.
+use Prim.Native.Nat.{◌*◌}
+use native.Mathlib.Omega.{arith}
+use Rattle.trace.specs.Trace.{digit_list}
+use Rattle.trace.proofs.Digits.{list-fits}
+use Rattle.trace.proofs.Steps.{digit_count}
+use Rattle.trace.proofs.Writing.{list_five}
+use Rattle.trace.proofs.writer.write_digits.Goals as goal
+
+pub write_list-requires : goal.write_list-requires
+write_list-requires c =
+    let s = c in
+    let a = s.args in (
+      omega arith,
+      digit_count a.n a.k s.requires.2 s.requires.3,
+      list_five c.digits_in_order-e.result (digit_list a.n a.k a.d.now) (a.n * a.k) c.digits_in_order-e.ensures (list-fits s.requires.4 s.requires.1),
+    )
