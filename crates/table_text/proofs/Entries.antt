@@ -39,10 +39,10 @@ module _ (e : ℤ) (i : InTable e) where
 
   -- `h` is what the two ways have left
   module _ (h : ℕ) where
-    pub negative_half : lt_z (to_z w64 (of_z w64 e)) (pos 0) ≡ true → h ≡ of_z w64 (negsuc 15) → Half e (to_z w64 h)
+    pub negative_half : lt_z (to_z w64 (of_z w64 e)) (pos 0) ≡ true → to_z w64 h ≡ negsuc 15 → Half e (to_z w64 h)
     negative_half t b = rw b (half_below e (let a = the_e in machine_test t (search machs depth 9) tt))
 
-    pub positive_half : lt_z (to_z w64 (of_z w64 e)) (pos 0) ≡ false → h ≡ of_z w64 (pos 16) → Half e (to_z w64 h)
+    pub positive_half : lt_z (to_z w64 (of_z w64 e)) (pos 0) ≡ false → to_z w64 h ≡ pos 16 → Half e (to_z w64 h)
     positive_half t b = rw b (half_above e (let a = the_e in machine_test t (search machs depth 9) tt))
 
   module _ (h : ℤ) (k : Half e h) where

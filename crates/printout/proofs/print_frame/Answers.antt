@@ -1,0 +1,17 @@
+-- Too little room, or the text that was put.
+use native.Mathlib.Omega.{arith}
+use Rattle.printout.proofs.Answers.{print_refused, print_accepted}
+use Rattle.printout.proofs.print_frame.Goals as goal
+
+pub returns-then-out-lt-TEXT_ROOM : goal.returns-then-out-lt-TEXT_ROOM
+returns-then-out-lt-TEXT_ROOM c =
+    let a = c.args in
+    let both = print_refused a.s.now a.out.now (omega (arith, c.if-out-lt-TEXT_ROOM.true)) in
+    record { answer = both.0; buffer = both.1 }
+
+pub returns : goal.returns
+returns c =
+    let p = c in
+    let e = p in
+    let a = e.args in
+    print_accepted a.s.now a.out.now p.put_frame_text.result _ (omega (arith, e.if-out-lt-TEXT_ROOM.false)) p.put_frame_text.ensures.0 p.put_frame_text.ensures.1

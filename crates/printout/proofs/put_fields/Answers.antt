@@ -1,0 +1,50 @@
+-- The five numbers, one after the other, and the newline. Each has at most 20 digits, so there is room for
+-- the next.
+use native.Mathlib.Omega.{arith}
+use Rattle.text.specs.Text.{line_end}
+use Rattle.text.proofs.Putting.{put_then, length-decimal}
+use Rattle.printout.proofs.put_fields.Goals as goal
+
+pub put_natural_item-a-requires : goal.put_natural_item-a-requires
+put_natural_item-a-requires c =
+    let h = c.args.h in
+    omega (arith, length-decimal h.p)
+
+pub put_natural_item-b-requires : goal.put_natural_item-b-requires
+put_natural_item-b-requires c =
+    let h = c.args.h in
+    omega (arith, length-decimal h.p, length-decimal h.f)
+
+pub put_natural_item-c-requires : goal.put_natural_item-c-requires
+put_natural_item-c-requires c =
+    let h = c.args.h in
+    omega (arith, length-decimal h.p, length-decimal h.f, length-decimal h.n)
+
+pub put_natural_item-d-requires : goal.put_natural_item-d-requires
+put_natural_item-d-requires c =
+    let h = c.args.h in
+    omega (arith, length-decimal h.p, length-decimal h.f, length-decimal h.n, length-decimal h.m)
+
+pub put_natural_item-e-requires : goal.put_natural_item-e-requires
+put_natural_item-e-requires c =
+    let a = c.args in
+    let h = a.h in
+    omega (arith, length-decimal h.p, length-decimal h.f, length-decimal h.n, length-decimal h.m, length-decimal a.scale)
+
+pub put_byte-requires : goal.put_byte-requires
+put_byte-requires c =
+    let a = c.args in
+    let h = a.h in
+    omega (arith, length-decimal h.p, length-decimal h.f, length-decimal h.n, length-decimal h.m, length-decimal a.scale)
+
+pub returns : goal.returns
+unfolding line_end
+returns c =
+    let e = c in
+    let f = e in
+    let d = f in
+    let b = d in
+    let a = b in
+    let k = a in
+    put_then k.put_natural_item-a.ensures
+    (put_then a.put_natural_item-b.ensures (put_then b.put_natural_item-c.ensures (put_then d.put_natural_item-d.ensures (put_then f.put_natural_item-e.ensures e.put_byte.ensures))))

@@ -1,0 +1,20 @@
+-- The number, then the digits.
+use Prim.Native.Nat.{◌+◌}
+use native.Mathlib.Numerals.{add-one}
+use native.Mathlib.Omega.{arith}
+use Rattle.text.proofs.Putting.{put_then, length-decimal}
+use Rattle.printout.proofs.put_step_line.Goals as goal
+
+pub put_decimal-from-requires : goal.put_decimal-from-requires
+put_decimal-from-requires c = omega (arith, length-decimal (c.args.t + 1))
+
+pub put_digits-requires : goal.put_digits-requires
+put_digits-requires c =
+    let s = c in
+    (s.requires.0, s.requires.1, omega (arith, length-decimal (s.args.t + 1)))
+
+pub returns : goal.returns
+returns c =
+    let b = c in
+    let e = add-one b.args.t in
+    rw (← e) (put_then b.put_decimal-from.ensures (rw (← e) at c.put_digits.ensures))

@@ -1,0 +1,19 @@
+-- The number, then the newline.
+use native.Mathlib.Omega.{arith}
+use mir.Syntax.{w64}
+use mir.Facts.{to_z-of_z}
+use Rattle.table_text.proofs.Lines.{length-line, put-line}
+use Rattle.table_text.proofs.put_entry.Goals as goal
+
+pub put_byte-requires : goal.put_byte-requires
+put_byte-requires c =
+    let n = c in
+    let s = n in
+    let p = rw (to_z-of_z {w = w64} s.ranges.z) at n.put_signed-end.ensures in
+    omega (arith, s.requires, length-line s.args.z, p.ends, n.put_signed-end.auto.out)
+
+pub returns : goal.returns
+returns c =
+    let n = c in
+    let s = n in
+    put-line s.args.z (rw (to_z-of_z {w = w64} s.ranges.z) at n.put_signed-end.ensures) c.put_byte.ensures

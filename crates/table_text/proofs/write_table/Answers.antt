@@ -1,0 +1,15 @@
+-- Too little room, or the text that was put.
+use native.Mathlib.Omega.{arith}
+use Rattle.table_text.proofs.Answers.{table-refused, table-accepted}
+use Rattle.table_text.proofs.write_table.Goals as goal
+
+pub returns-then-out-lt-TABLE_ROOM : goal.returns-then-out-lt-TABLE_ROOM
+returns-then-out-lt-TABLE_ROOM c = let both = table-refused c.args.out.now (omega (arith, c.if-out-lt-TABLE_ROOM.true)) in
+    record { answer = both.0; buffer = both.1 }
+
+pub returns : goal.returns
+returns c =
+    let p = c in
+    let e = p in
+    let both = table-accepted e.args.out.now (omega (arith, e.if-out-lt-TABLE_ROOM.false)) p.put_table.ensures in
+    record { answer = both.0; buffer = both.1 }
