@@ -54,6 +54,7 @@ every f [] = true
 every f (c ∷ cs) = f c && every f cs
 
 among : (f : Case → Bool) (cs : List Case) → T (every f cs) → (c : Case) → Memᴰ c cs → T (f c)
+among f [] t c x = elim x [ ]
 among f (x ∷ cs) t c (Memᴰ.head e) = subst (λ (d : Case). T (f d)) (sym e) (and_left (f x) (every f cs) t)
 among f (x ∷ cs) t c (Memᴰ.tail m) = among f cs (and_right (f x) (every f cs) t) c m
 

@@ -14,4 +14,5 @@ returns c =
     let p = c in
     let e = p in
     let a = e.args in
-    print_accepted a.s.now a.out.now p.put_frame_text.result _ (omega (arith, e.if-out-lt-TEXT_ROOM.false)) p.put_frame_text.ensures.0 p.put_frame_text.ensures.1
+    let both = print_accepted a.s.now a.out.now p.put_frame_text.result _ (omega (arith, e.if-out-lt-TEXT_ROOM.false)) p.put_frame_text.ensures.value p.put_frame_text.ensures.out_after in
+    record { answer = both.0; buffer = both.1 }

@@ -25,4 +25,4 @@ returns c =
     let l = a in
     let both = accepted_whole l.args.s.now l.load-l.result l.load-l.ensures a.if-l-ne0.false a.advance-a.result a.advance-a.ensures
     d.put_job_text.ensures in
-    record { answer = both.0; buffer = both.1 }
+    record { value = both.0; out_after = both.1 }

@@ -8,7 +8,7 @@ pub put_numbers-requires : goal.put_numbers-requires
 put_numbers-requires c =
     let d = c in
     let s = d in
-    (order_small s.args.s s.requires.0, omega (arith, d.put_byte-from.ensures.ends, d.put_byte-from.auto.0))
+    (order_small s.args.s s.requires.0, omega (arith, d.put_byte-from.ensures.ends, d.put_byte-from.auto.out))
 
 pub returns : goal.returns
 returns c =
