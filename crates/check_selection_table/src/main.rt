@@ -8,6 +8,7 @@
 use selection::ESTIMATES;
 use std::alloc::Global;
 use std::io::Read;
+use std::rt::Files;
 use std::{env, fs, io};
 use table_text::Compared;
 
@@ -15,7 +16,7 @@ use table_text::Compared;
 const MOST: u64 = 4096;
 
 // The estimate whose entry stands at place k.
-fn print_estimate(rt: &HostRuntime, k: usize) -> io::Result<()> {
+fn print_estimate(rt: &impl Print, k: usize) -> io::Result<()> {
     if k < 512 {
         print!(rt; "-{}/32", 512 - k)
     } else {
@@ -24,13 +25,13 @@ fn print_estimate(rt: &HostRuntime, k: usize) -> io::Result<()> {
 }
 
 // An entry.
-fn print_digit(rt: &HostRuntime, d: i8) -> io::Result<()> {
+fn print_digit(rt: &impl Print, d: i8) -> io::Result<()> {
     print!(rt; "{d}")
 }
 
 // What is said of the first entry that the text has otherwise, at place k: its line, its estimate, and what
 // it should be.
-fn print_difference(rt: &HostRuntime, k: usize) -> io::Result<()> {
+fn print_difference(rt: &impl Print, k: usize) -> io::Result<()> {
     let t = selection::table();
     if ESTIMATES <= k {
         return println!(rt; ": more lines than the table's 1024");
@@ -43,7 +44,7 @@ fn print_difference(rt: &HostRuntime, k: usize) -> io::Result<()> {
 }
 
 // Prints the line of a file: its name, and what came of the comparison.
-fn print_compared(rt: &HostRuntime, name: &str, c: Compared) -> io::Result<()> {
+fn print_compared(rt: &impl Print, name: &str, c: Compared) -> io::Result<()> {
     print!(rt; "{name}")?;
     if c.same {
         return println!(rt; ": the table");
@@ -52,7 +53,7 @@ fn print_compared(rt: &HostRuntime, name: &str, c: Compared) -> io::Result<()> {
 }
 
 // Says on standard error why a file cannot be read.
-fn fail(rt: &HostRuntime, name: &str, e: io::Error) {
+fn fail(rt: &impl Eprint, name: &str, e: io::Error) {
     let _ = eprintln!(rt; "{name}: {e}");
 }
 
@@ -64,7 +65,11 @@ fn read_text<R: Read + Drop>(alloc: Global, file: R) -> io::Result<Vec<u8>> {
 }
 
 // Compares what is read from an open file.
-fn check_open<R: Read + Drop>(rt: &HostRuntime, name: &str, file: R) -> io::Result<()> {
+fn check_open(
+    rt: &(impl Print + Eprint + AllocGlobal),
+    name: &str,
+    file: impl Read + Drop,
+) -> io::Result<()> {
     match read_text(rt.alloc(), file) {
         Ok(text) => print_compared(rt, name, table_text::compare_table(&text)),
         Err(e) => {
@@ -75,9 +80,12 @@ fn check_open<R: Read + Drop>(rt: &HostRuntime, name: &str, file: R) -> io::Resu
 }
 
 // Compares what an argument names.
-fn check_argument(rt: &HostRuntime, name: &str) -> io::Result<()> {
+fn check_argument<R: Files + Input + Print + Eprint + AllocGlobal>(
+    rt: &R,
+    name: &str,
+) -> io::Result<()> {
     if name == "-" {
-        return check_open(rt, name, rt.stdin());
+        return check_open(rt, name, rt.reader());
     }
     match fs::open(rt, name) {
         Ok(file) => check_open(rt, name, file),

@@ -8,8 +8,9 @@
 #![tactic(auto)]
 
 use anyhow::{Context, Result};
+use std::alloc::Global;
 use std::io;
-use std::io::Read;
+use std::io::{Read, Write};
 use std::process::ExitCode;
 
 // How many bytes of the input are kept.
@@ -18,26 +19,26 @@ const INPUT: u64 = 4096;
 // The bytes lent for the text.
 const ROOM: usize = 65536;
 
-// The bytes of standard input, the first 4,096 of more.
-fn read_frame(rt: &HostRuntime) -> io::Result<Vec<u8>> {
-    let mut frame = Vec::new(rt.alloc());
-    rt.stdin().take(INPUT).read_to_end(&mut frame)?;
+// The bytes of the input, the first 4,096 of more.
+fn read_frame<R: Read + Drop>(alloc: Global, input: R) -> io::Result<Vec<u8>> {
+    let mut frame = Vec::new(alloc);
+    input.take(INPUT).read_to_end(&mut frame)?;
     Ok(frame)
 }
 
-// Writes the text of a frame to standard output.
-fn write_text(rt: &HostRuntime, frame: &[u8]) -> io::Result<()> {
-    let mut out = vec![in rt.alloc(); 0u8; ROOM]?;
-    let r = emethod::print_frame(frame, &mut out);
-    match out.get(..r.length) {
-        Some(text) => rt.stdout().write_all(text),
+// Writes the text of a frame.
+fn write_text<W: Write>(alloc: Global, out: &mut W, frame: &[u8]) -> io::Result<()> {
+    let mut text = vec![in alloc; 0u8; ROOM]?;
+    let r = emethod::print_frame(frame, &mut text);
+    match text.get(..r.length) {
+        Some(lines) => out.write_all(lines),
         None => Err(io::Error::other("no room for the text")),
     }
 }
 
-fn run(rt: &HostRuntime) -> Result<()> {
-    let frame = read_frame(rt).context("standard input")?;
-    write_text(rt, &frame).context("standard output")
+fn run(rt: &(impl Input + Print + AllocGlobal)) -> Result<()> {
+    let frame = read_frame(rt.alloc(), rt.reader()).context("standard input")?;
+    write_text(rt.alloc(), &mut io::writer(rt), &frame).context("standard output")
 }
 
 fn main(rt: HostRuntime) -> ExitCode {

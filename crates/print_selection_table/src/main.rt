@@ -5,23 +5,24 @@
 #![tactic(auto)]
 
 use std::io;
+use std::io::Write;
 use std::process::ExitCode;
 
 // The bytes lent for the text.
 const ROOM: usize = 4096;
 
-// Writes the table's text to standard output.
-fn write_text(rt: &HostRuntime) -> io::Result<()> {
-    let mut out = [0u8; ROOM];
-    let w = table_text::write_table(&mut out);
-    match out.get(..w.length) {
-        Some(text) => rt.stdout().write_all(text),
+// Writes the table's text.
+fn write_text<W: Write>(out: &mut W) -> io::Result<()> {
+    let mut text = [0u8; ROOM];
+    let w = table_text::write_table(&mut text);
+    match text.get(..w.length) {
+        Some(lines) => out.write_all(lines),
         None => Err(io::Error::other("no room for the text")),
     }
 }
 
 fn main(rt: HostRuntime) -> ExitCode {
-    match write_text(&rt) {
+    match write_text(&mut io::writer(&rt)) {
         Ok(()) => ExitCode::SUCCESS,
         Err(e) => {
             let _ = eprintln!(rt; "print_selection_table: standard output: {e}");
