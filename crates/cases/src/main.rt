@@ -8,13 +8,14 @@
 
 mod table;
 
-ghost use Rattle.std.specs.Prelude.{◌≡◌, true, ◌+◌, ◌≤◌, ◌<◌, pos};
+ghost use Rattle.std.specs.Prelude.{◌≡◌, true, ◌+◌, ◌≤◌, ◌<◌, pos, IfOk};
 ghost use Rattle.frame.specs.Frame.{most_bytes};
 ghost use Rattle.cases.specs.Words.{word_at, Said, Listed};
 
 use emethod::State;
 use job::NUMBERS;
 use state::DIGITS;
+use std::io;
 use table::{LINE, Lines, WORDS};
 
 // The bytes of the longest frame and of the longest trace.
@@ -265,70 +266,65 @@ fn frame_bytes(t: &Lines, place: usize) -> [u8; FRAME_BYTES]
     out
 }
 
-fn print_text(s: &[u8]) {
-    io::write_all(1, s);
+fn print_text(rt: &impl Print, s: &str) -> io::Result<()> {
+    print!(rt; "{s}")
 }
 
 // The line of a case that differs, which counts as one.
-fn differs(number: usize, what: &[u8]) -> u64
-    ensures { result ≤ 1 }
+fn differs(rt: &impl Print, number: usize, what: &str) -> io::Result<u64>
+    ensures { IfOk result (λ n. n ≤ 1) }
 {
-    print_text(b"case ");
-    io::print_decimal(1, number as u64);
-    print_text(b" differs: ");
-    print_text(what);
-    print_text(b"\n");
-    1
+    print!(rt; "case {number} differs: ")?;
+    print_text(rt, what)?;
+    print_text(rt, "\n")?;
+    Ok(1)
 }
 
 // Says what differs of a case; how many cases that makes, 1 or 0.
-fn report(number: usize, d: Part) -> u64
-    ensures { result ≤ 1 }
+fn report(rt: &impl Print, number: usize, d: Part) -> io::Result<u64>
+    ensures { IfOk result (λ n. n ≤ 1) }
 {
     match d {
-        Part::Nothing => 0,
-        Part::Refusal => differs(number, b"refusal"),
-        Part::Row => differs(number, b"row"),
-        Part::Scale => differs(number, b"scale"),
-        Part::Numbers => differs(number, b"numbers"),
-        Part::Digits => differs(number, b"digits"),
-        Part::Readings => differs(number, b"readings"),
-        Part::Trace => differs(number, b"trace"),
+        Part::Nothing => Ok(0),
+        Part::Refusal => differs(rt, number, "refusal"),
+        Part::Row => differs(rt, number, "row"),
+        Part::Scale => differs(rt, number, "scale"),
+        Part::Numbers => differs(rt, number, "numbers"),
+        Part::Digits => differs(rt, number, "digits"),
+        Part::Readings => differs(rt, number, "readings"),
+        Part::Trace => differs(rt, number, "trace"),
     }
 }
 
 // Runs the case whose row starts at the place, with the number of its words.
-fn run(t: &Lines, place: usize, number: usize) -> u64
+fn run(rt: &impl Print, t: &Lines, place: usize, number: usize) -> io::Result<u64>
     requires { place ≤ 12000 }
-    ensures { result ≤ 1 }
+    ensures { IfOk result (λ n. n ≤ 1) }
 {
     let n = size(t, place + 1);
     let bytes = frame_bytes(t, place + 1);
     let d = difference(t, past(t, place + 1), &bytes[..n]);
-    report(number, d)
+    report(rt, number, d)
 }
 
 // Runs all cases; how many differ.
-fn run_all(t: &Lines, n: usize) -> u64
+fn run_all(rt: &impl Print, t: &Lines, n: usize) -> io::Result<u64>
     requires { n ≤ 1000 }
 {
     let mut differ: u64 = 0;
     let mut place: usize = 0;
     let mut i: usize = 0;
     while i < n {
-        differ += run(t, place, i + 1);
+        differ += run(rt, t, place, i + 1)?;
         place = past(t, place);
         i += 1;
     }
-    differ
+    Ok(differ)
 }
 
-fn main() {
+fn main(rt: HostRuntime) -> io::Result<()> {
     let t = table::words();
     let n = table::rows();
-    let differ = run_all(&t, n);
-    io::print_decimal(1, n as u64);
-    print_text(b" cases, ");
-    io::print_decimal(1, differ);
-    print_text(b" differ\n");
+    let differ = run_all(&rt, &t, n)?;
+    println!(rt; "{n} cases, {differ} differ")
 }

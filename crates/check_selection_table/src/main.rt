@@ -6,90 +6,103 @@
 #![tactic(auto)]
 
 use selection::ESTIMATES;
+use std::alloc::Global;
+use std::io::Read;
+use std::rt::Files;
+use std::{env, fs, io};
 use table_text::Compared;
 
+// How many bytes of a file are read.
+const MOST: u64 = 4096;
+
 // The estimate whose entry stands at place k.
-fn print_estimate(k: usize) {
+fn print_estimate(rt: &impl Print, k: usize) -> io::Result<()> {
     if k < 512 {
-        io::write_all(1, b"-");
-        io::print_decimal(1, (512 - k) as u64);
+        print!(rt; "-{}/32", 512 - k)
     } else {
-        io::print_decimal(1, (k - 512) as u64);
+        print!(rt; "{}/32", k - 512)
     }
-    io::write_all(1, b"/32");
 }
 
 // An entry.
-fn print_digit(d: i8) {
-    if d < 0 {
-        io::write_all(1, b"-");
-    }
-    io::print_decimal(1, integers::magnitude(integers::widen(d)));
+fn print_digit(rt: &impl Print, d: i8) -> io::Result<()> {
+    print!(rt; "{d}")
 }
 
 // What is said of the first entry that the text has otherwise, at place k: its line, its estimate, and what
 // it should be.
-fn print_difference(k: usize) {
+fn print_difference(rt: &impl Print, k: usize) -> io::Result<()> {
     let t = selection::table();
     if ESTIMATES <= k {
-        io::write_all(1, b": more lines than the table's 1024\n");
-        return;
+        return println!(rt; ": more lines than the table's 1024");
     }
-    io::write_all(1, b": line ");
-    io::print_decimal(1, (k + 1) as u64);
-    io::write_all(1, b" differs: the entry for ");
-    print_estimate(k);
-    io::write_all(1, b" is ");
-    print_digit(t[k]);
-    io::write_all(1, b"\n");
+    print!(rt; ": line {} differs: the entry for ", k + 1)?;
+    print_estimate(rt, k)?;
+    print!(rt; " is ")?;
+    print_digit(rt, t[k])?;
+    println!(rt; "")
 }
 
 // Prints the line of a file: its name, and what came of the comparison.
-fn print_compared(name: &[u8], c: Compared) {
-    io::write_all(1, name);
+fn print_compared(rt: &impl Print, name: &str, c: Compared) -> io::Result<()> {
+    print!(rt; "{name}")?;
     if c.same {
-        io::write_all(1, b": the table\n");
-        return;
+        return println!(rt; ": the table");
     }
-    print_difference(c.agreeing);
+    print_difference(rt, c.agreeing)
+}
+
+// Says on standard error why a file cannot be read.
+fn fail(rt: &impl Eprint, name: &str, e: io::Error) {
+    let _ = eprintln!(rt; "{name}: {e}");
+}
+
+// The bytes of an open file, the first 4,096 of more.
+fn read_text<R: Read + Drop>(alloc: Global, file: R) -> io::Result<Vec<u8>> {
+    let mut text = Vec::new(alloc);
+    file.take(MOST).read_to_end(&mut text)?;
+    Ok(text)
 }
 
 // Compares what is read from an open file.
-fn check_open(name: &[u8], fd: i32) {
-    let mut text = io::buffer();
-    let n = io::read_full(fd, &mut text);
-    if os::errno() != 0 {
-        os::fail(name);
-        return;
+fn check_open(
+    rt: &(impl Print + Eprint + AllocGlobal),
+    name: &str,
+    file: impl Read + Drop,
+) -> io::Result<()> {
+    match read_text(rt.alloc(), file) {
+        Ok(text) => print_compared(rt, name, table_text::compare_table(&text)),
+        Err(e) => {
+            fail(rt, name, e);
+            Ok(())
+        }
     }
-    print_compared(name, table_text::compare_table(&text[..n]));
 }
 
-// Compares what argument i names.
-fn check_argument(i: usize) {
-    let mut name = io::buffer();
-    let n = os::arg(i, &mut name);
-    if n == 1 && name[0] == b'-' {
-        check_open(b"-", 0);
-        return;
+// Compares what an argument names.
+fn check_argument<R: Files + Input + Print + Eprint + AllocGlobal>(
+    rt: &R,
+    name: &str,
+) -> io::Result<()> {
+    if name == "-" {
+        return check_open(rt, name, rt.reader());
     }
-    let fd = os::open_read(&name[..n]);
-    if fd < 0 {
-        os::fail(&name[..n]);
-        return;
+    match fs::open(rt, name) {
+        Ok(file) => check_open(rt, name, file),
+        Err(e) => {
+            fail(rt, name, e);
+            Ok(())
+        }
     }
-    check_open(&name[..n], fd);
-    libc::close(fd);
 }
 
-fn main() {
-    let n = os::arg_count();
-    if n < 2 {
-        io::write_all(2, b"check_selection_table: no file is named\n");
+fn main(rt: HostRuntime) -> io::Result<()> {
+    let args = env::args(&rt)?;
+    if args.len() < 2 {
+        let _ = eprintln!(rt; "check_selection_table: no file is named");
     }
-    let mut i: usize = 1;
-    while i < n {
-        check_argument(i);
-        i += 1;
+    for name in args.skip(1) {
+        check_argument(&rt, name.as_str())?;
     }
+    Ok(())
 }

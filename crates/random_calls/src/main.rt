@@ -15,6 +15,7 @@
 use emethod::{Advanced, Evaluated, Header, Loaded, State};
 use job::ROWS;
 use state::DIGITS;
+use std::io;
 use system::ENTRIES;
 
 // More than the largest refusal number.
@@ -415,36 +416,31 @@ fn turns(
 
 // A line: a refusal number, and how many calls of advance, of readings and of the running sums gave it.
 fn print_line(
+    rt: &impl Print,
     refusal: usize,
     advances: &[u64; TALLIES],
     reads: &[u64; TALLIES],
     sums: &[u64; TALLIES],
-) {
+) -> io::Result<()> {
     if refusal < TALLIES {
-        io::print_decimal(1, refusal as u64);
-        io::write_all(1, b" ");
-        io::print_decimal(1, advances[refusal]);
-        io::write_all(1, b" ");
-        io::print_decimal(1, reads[refusal]);
-        io::write_all(1, b" ");
-        io::print_decimal(1, sums[refusal]);
-        io::write_all(1, b"\n");
+        let a = advances[refusal];
+        let r = reads[refusal];
+        let s = sums[refusal];
+        println!(rt; "{refusal} {a} {r} {s}")?;
     }
+    Ok(())
 }
 
-fn main() {
+fn main(rt: HostRuntime) -> io::Result<()> {
     let mut advances = [0u64; TALLIES];
     let mut reads = [0u64; TALLIES];
     let mut sums = [0u64; TALLIES];
     if !turns(4000, &mut advances, &mut reads, &mut sums) {
-        io::write_all(1, b"wrong\n");
-        return;
+        return println!(rt; "wrong");
     }
-    print_line(0, &advances, &reads, &sums);
-    print_line(20, &advances, &reads, &sums);
-    print_line(21, &advances, &reads, &sums);
-    print_line(22, &advances, &reads, &sums);
-    print_line(23, &advances, &reads, &sums);
-    print_line(24, &advances, &reads, &sums);
-    io::write_all(1, b"ok\n");
+    print_line(&rt, 0, &advances, &reads, &sums)?;
+    for refusal in 20..25 {
+        print_line(&rt, refusal, &advances, &reads, &sums)?;
+    }
+    println!(rt; "ok")
 }

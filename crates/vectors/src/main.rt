@@ -17,6 +17,9 @@ use emethod::{
 };
 use job::{NUMBERS, ROWS};
 use state::DIGITS;
+use std::alloc::Global;
+use std::io;
+use std::io::{BufReader, BufWriter, Read, Write};
 
 // Where the loop ends if the input does not: more vectors than there are.
 const MOST: usize = 10000;
@@ -30,101 +33,100 @@ const WORDS: usize = 272;
 // The most steps of a job, as a budget for all of them.
 const ALL_STEPS: u64 = 60;
 
-fn print_newline() {
-    io::write_all(1, b"\n");
+// The bytes lent for a frame or a trace that is written again.
+const BYTES: usize = 4096;
+
+// The bytes lent for the text of a frame.
+const TEXT: usize = 65536;
+
+fn print_newline<W: Write>(out: &mut W) -> io::Result<()> {
+    out.write_all(b"\n")
 }
 
-fn print_number(n: usize) {
-    io::print_decimal(1, n as u64);
+fn print_number<W: Write>(out: &mut W, n: usize) -> io::Result<()> {
+    write!(out, "{n}")
 }
 
 // A space and a natural number.
-fn print_field(n: usize) {
-    io::write_all(1, b" ");
-    print_number(n);
+fn print_field<W: Write>(out: &mut W, n: usize) -> io::Result<()> {
+    write!(out, " {n}")
 }
 
 // A space and a number with its sign.
-fn print_signed(z: i64) {
-    io::write_all(1, b" ");
-    if z < 0 {
-        io::write_all(1, b"-");
-    }
-    io::print_decimal(1, integers::magnitude(z));
+fn print_signed<W: Write>(out: &mut W, z: i64) -> io::Result<()> {
+    write!(out, " {z}")
 }
 
 // The line kind, r, p, f, n, m, k. The codes 0 to 3 stand for the radixes 2, 4, 8, 16.
-fn print_header(h: Header, k: usize) {
-    print_number(h.kind);
-    print_field(2usize << ((h.code % 4) as u64));
-    print_field(h.p);
-    print_field(h.f);
-    print_field(h.n);
-    print_field(h.m);
-    print_field(k);
-    print_newline();
+fn print_header<W: Write>(out: &mut W, h: Header, k: usize) -> io::Result<()> {
+    print_number(out, h.kind)?;
+    print_field(out, 2usize << ((h.code % 4) as u64))?;
+    print_field(out, h.p)?;
+    print_field(out, h.f)?;
+    print_field(out, h.n)?;
+    print_field(out, h.m)?;
+    print_field(out, k)?;
+    print_newline(out)
 }
 
 // What is printed of the place i in the digits of n rows: the step's number before its first row, the digit
 // of a row below n, and the line's end after the last of the 16 rows that there is room for.
-fn print_place(i: usize, d: i8, n: usize) {
+fn print_place<W: Write>(out: &mut W, i: usize, d: i8, n: usize) -> io::Result<()> {
     if i % ROWS == 0 {
-        print_number(i / ROWS + 1);
+        print_number(out, i / ROWS + 1)?;
     }
     if i % ROWS < n {
-        print_signed(integers::widen(d));
+        print_signed(out, i64::from(d))?;
     }
     if i % ROWS == ROWS - 1 {
-        print_newline();
+        print_newline(out)?;
     }
+    Ok(())
 }
 
 // The lines of the first k steps.
-fn print_steps(digits: &[i8; DIGITS], n: usize, k: usize) {
-    let mut i: usize = 0;
-    while i < DIGITS {
+fn print_steps<W: Write>(out: &mut W, digits: &[i8; DIGITS], n: usize, k: usize) -> io::Result<()> {
+    for i in 0..DIGITS {
         if i / ROWS < k {
-            print_place(i, digits[i], n);
+            print_place(out, i, digits[i], n)?;
         }
-        i += 1;
     }
+    Ok(())
 }
 
 // Whether the first n bytes of the buffer are those of s, and s has no more.
-fn begins(out: &[u8], n: usize, s: &[u8]) -> bool {
-    if out.len() < n {
+fn begins(buf: &[u8], n: usize, s: &[u8]) -> bool {
+    if buf.len() < n {
         return false;
     }
-    check::same(&out[0..n], s)
+    &buf[0..n] == s
 }
 
 // Prints the line that says that bytes differ, where they do.
-fn print_differs(same: bool) {
+fn print_differs<W: Write>(out: &mut W, same: bool) -> io::Result<()> {
     if !same {
-        io::write_all(1, b"differs\n");
+        out.write_all(b"differs\n")?;
     }
+    Ok(())
 }
 
 // Whether the trace of a record has the bytes s.
 fn writes_trace(t: Record, s: &[u8]) -> bool {
-    let mut out = io::buffer();
-    let w: TraceWritten = emethod::write_trace(t, &mut out);
-    w.refusal == 0 && begins(&out, w.length, s)
+    let mut buf = [0u8; BYTES];
+    let w: TraceWritten = emethod::write_trace(t, &mut buf);
+    w.refusal == 0 && begins(&buf, w.length, s)
 }
 
 // Prints one trace.
-fn show_trace(s: &[u8]) {
+fn show_trace<W: Write>(out: &mut W, s: &[u8]) -> io::Result<()> {
     let a: Recorded = emethod::read_trace(s);
     if a.refusal != 0 {
-        io::write_all(1, b"refused");
-        print_field(a.refusal);
-        print_newline();
-        return;
+        return show_refused(out, a.refusal, 0);
     }
     let t = a.trace;
-    print_header(t.header, t.k);
-    print_steps(&t.digits, t.header.n, t.k);
-    print_differs(writes_trace(t, s));
+    print_header(out, t.header, t.k)?;
+    print_steps(out, &t.digits, t.header.n, t.k)?;
+    print_differs(out, writes_trace(t, s))
 }
 
 // Whether the frame of a header and of its numbers, which begin the list, has the bytes s.
@@ -136,9 +138,9 @@ fn writes_frame(h: Header, list: &[i64], s: &[u8]) -> bool {
     if list.len() < n {
         return false;
     }
-    let mut out = io::buffer();
-    let w: FrameWritten = emethod::write_frame(h, &list[0..n], &mut out);
-    w.refusal == 0 && begins(&out, w.length, s)
+    let mut buf = [0u8; BYTES];
+    let w: FrameWritten = emethod::write_frame(h, &list[0..n], &mut buf);
+    w.refusal == 0 && begins(&buf, w.length, s)
 }
 
 // Whether the first n bytes are a trace that, read and written, gives these bytes again.
@@ -157,87 +159,86 @@ fn records(s: &[u8]) -> bool {
     let a = emethod::advance(l.state, ALL_STEPS);
     let r = emethod::record_of(a.state);
     let t = r.trace;
-    let mut out = io::buffer();
-    let w = emethod::write_trace(t, &mut out);
-    r.refusal == 0 && w.refusal == 0 && reads_trace(&out, w.length)
+    let mut buf = [0u8; BYTES];
+    let w = emethod::write_trace(t, &mut buf);
+    r.refusal == 0 && w.refusal == 0 && reads_trace(&buf, w.length)
 }
 
 // Prints one frame. The buffer has room enough.
-fn show_frame(s: &[u8]) {
-    let mut out = io::large_buffer();
-    let r: Printed = emethod::print_frame(s, &mut out);
-    let end = r.length;
-    if end <= out.len() {
-        io::write_all(1, &out[0..end]);
+fn show_frame<W: Write>(alloc: Global, out: &mut W, s: &[u8]) -> io::Result<()> {
+    let mut text = vec![in alloc; 0u8; TEXT]?;
+    let r: Printed = emethod::print_frame(s, &mut text);
+    if let Some(lines) = text.get(..r.length) {
+        out.write_all(lines)?;
     }
     let mut list = [0i64; NUMBERS];
     let f: FrameRead = emethod::read_frame(s, &mut list);
     if f.refusal == 0 {
         let h = f.header;
-        print_differs(writes_frame(h, &list, s) && records(s));
+        print_differs(out, writes_frame(h, &list, s) && records(s))?;
     }
+    Ok(())
 }
 
 // The first n words of the list, a space before each.
-fn print_words(list: &[i64; WORDS], n: usize) {
-    let mut i: usize = 0;
-    while i < WORDS {
+fn print_words<W: Write>(out: &mut W, list: &[i64; WORDS], n: usize) -> io::Result<()> {
+    for i in 0..WORDS {
         if i < n {
-            print_signed(list[i]);
+            print_signed(out, list[i])?;
         }
-        i += 1;
     }
+    Ok(())
 }
 
 // The line of a state: the steps made, and the words that the call writes. The list has room for all.
-fn show_sums(s: State) {
+fn show_sums<W: Write>(out: &mut W, s: State) -> io::Result<()> {
     let mut list = [0i64; WORDS];
     let w: SumsWritten = emethod::running_sums(s, &mut list);
-    print_number(s.k);
-    print_words(&list, w.count);
-    print_newline();
-    print_differs(w.refusal == 0);
+    print_number(out, s.k)?;
+    print_words(out, &list, w.count)?;
+    print_newline(out)?;
+    print_differs(out, w.refusal == 0)
 }
 
 // The lines of a job: after 0, 1 and 2 steps, which every job has, and after all where there are more.
-fn show_job(s: State) {
-    show_sums(s);
+fn show_job<W: Write>(out: &mut W, s: State) -> io::Result<()> {
+    show_sums(out, s)?;
     let a = emethod::advance(s, 1);
-    show_sums(a.state);
+    show_sums(out, a.state)?;
     let b = emethod::advance(a.state, 1);
-    show_sums(b.state);
+    show_sums(out, b.state)?;
     let c = emethod::advance(b.state, ALL_STEPS);
     if c.refusal == 0 {
-        show_sums(c.state);
+        show_sums(out, c.state)?;
     }
+    Ok(())
 }
 
-// The line of a frame that is not loaded.
-fn show_refused(refusal: usize, row: usize) {
-    io::write_all(1, b"refused");
-    print_field(refusal);
+// The line of a frame that is not loaded, or of a trace that is not read.
+fn show_refused<W: Write>(out: &mut W, refusal: usize, row: usize) -> io::Result<()> {
+    out.write_all(b"refused")?;
+    print_field(out, refusal)?;
     if row != 0 {
-        print_field(row);
+        print_field(out, row)?;
     }
-    print_newline();
+    print_newline(out)
 }
 
 // Prints the columns of one frame.
-fn show_columns(s: &[u8]) {
+fn show_columns<W: Write>(out: &mut W, s: &[u8]) -> io::Result<()> {
     let l: Loaded = emethod::load(s);
     if l.refusal == 0 {
-        show_job(l.state);
-        return;
+        return show_job(out, l.state);
     }
-    show_refused(l.refusal, l.row);
+    show_refused(out, l.refusal, l.row)
 }
 
 // A number of the line, with a space before it unless it is the first, which is that of step 1.
-fn print_item(n: usize, k: usize) {
+fn print_item<W: Write>(out: &mut W, n: usize, k: usize) -> io::Result<()> {
     if 1 < k {
-        io::write_all(1, b" ");
+        out.write_all(b" ")?;
     }
-    print_number(n);
+    print_number(out, n)
 }
 
 // What is left of a count after a part of it; where the part is too large, too many to come to 0 any more.
@@ -250,56 +251,45 @@ fn less(count: usize, part: usize) -> usize {
 
 // The line of a job: the additions of each step, one advance a step. Taken off those that one advance of all
 // steps counts, they leave none.
-fn show_step_additions(s: State) {
+fn show_step_additions<W: Write>(out: &mut W, s: State) -> io::Result<()> {
     let all = emethod::advance(s, ALL_STEPS);
     let mut left = all.additions;
     let mut t = s;
-    let mut j: u64 = 0;
-    while j < ALL_STEPS {
+    for _ in 0..ALL_STEPS {
         let a = emethod::advance(t, 1);
         if a.refusal == 0 {
-            print_item(a.additions, a.state.k);
+            print_item(out, a.additions, a.state.k)?;
         }
         left = less(left, a.additions);
-        let next = a.state;
-        t = next;
-        j += 1;
+        t = a.state;
     }
-    print_newline();
-    print_differs(left == 0);
+    print_newline(out)?;
+    print_differs(out, left == 0)
 }
 
 // Prints the additions of one frame.
-fn show_additions(s: &[u8]) {
+fn show_additions<W: Write>(out: &mut W, s: &[u8]) -> io::Result<()> {
     let l: Loaded = emethod::load(s);
     if l.refusal == 0 {
-        show_step_additions(l.state);
-        return;
+        return show_step_additions(out, l.state);
     }
-    show_refused(l.refusal, l.row);
+    show_refused(out, l.refusal, l.row)
 }
 
-// Reads as many bytes as asked for, or as there are, to the front of a buffer; how many were read.
-fn read_front(buf: &mut [u8], size: usize) -> usize {
-    if buf.len() < size {
-        return 0;
-    }
-    io::read_full(0, &mut buf[0..size])
+// Reads as many bytes as asked for, or as there are.
+fn read_front<R: Read>(alloc: Global, input: &mut R, size: usize) -> io::Result<Vec<u8>> {
+    let mut bytes = Vec::new(alloc);
+    input.take(size as u64).read_to_end(&mut bytes)?;
+    Ok(bytes)
 }
 
-// Prints the vector of a tag that stands in the first n bytes.
-fn print_front(tag: u8, buf: &[u8], n: usize) {
-    if buf.len() < n {
-        return;
-    }
-    if tag == b'f' {
-        show_frame(&buf[0..n]);
-    } else if tag == b'c' {
-        show_columns(&buf[0..n]);
-    } else if tag == b'a' {
-        show_additions(&buf[0..n]);
-    } else {
-        show_trace(&buf[0..n]);
+// Prints the vector of a tag.
+fn print_front<W: Write>(alloc: Global, out: &mut W, tag: u8, s: &[u8]) -> io::Result<()> {
+    match tag {
+        b'f' => show_frame(alloc, out, s),
+        b'c' => show_columns(out, s),
+        b'a' => show_additions(out, s),
+        _ => show_trace(out, s),
     }
 }
 
@@ -309,23 +299,26 @@ fn two_bytes(high: u8, low: u8) -> usize {
 }
 
 // Reads and prints one vector; whether there was one.
-fn vector() -> bool {
-    let mut head = [0u8; 3];
-    if io::read_full(0, &mut head) < 3 {
-        return false;
+fn vector<R: Read, W: Write>(alloc: Global, input: &mut R, out: &mut W) -> io::Result<bool> {
+    let head = read_front(alloc, input, 3)?;
+    match head.as_slice() {
+        [tag, high, low] => {
+            let bytes = read_front(alloc, input, two_bytes(*high, *low))?;
+            print_front(alloc, out, *tag, &bytes)?;
+            Ok(true)
+        }
+        _ => Ok(false),
     }
-    let mut input = io::large_buffer();
-    let n = read_front(&mut input, two_bytes(head[1], head[2]));
-    print_front(head[0], &input, n);
-    true
 }
 
-fn main() {
-    let mut i: usize = 0;
-    while i < MOST {
-        if !vector() {
-            return;
+fn main(rt: HostRuntime) -> io::Result<()> {
+    let alloc = rt.alloc();
+    let mut input = BufReader::new(alloc, rt.reader())?;
+    let mut out = BufWriter::new(alloc, io::writer(&rt))?;
+    for _ in 0..MOST {
+        if !vector(alloc, &mut input, &mut out)? {
+            break;
         }
-        i += 1;
     }
+    out.flush()
 }

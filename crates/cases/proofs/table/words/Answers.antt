@@ -1,14 +1,10 @@
 -- The words of the table are computed.
-use mathlib.Core.Path.{refl}
+use Rattle.std.proofs.Common.{refl}
 use mathlib.Core.List.{flat_map}
 use Rattle.case_table.specs.Table.{table}
 use Rattle.cases.specs.Words.{table_words, table_lines, lines}
-use Rattle.cases.proofs.table.words.Statement.{statement}
-use Rattle.cases.proofs.table.words.Tie as tie
+use Rattle.cases.proofs.table.words.Goals as goal
 
-returns : tie.Need-returns
+pub returns : goal.returns
 unfolding table_lines lines table_words flat_map table
 returns c = refl
-
-pub words-spec : {M : Type 1} → statement M
-words-spec = tie.close (tie.spec returns)
