@@ -1,0 +1,34 @@
+use mathlib.Core.List.{map}
+use mathlib.Core.Path.{◌≡◌, refl, ◌∙◌}
+use Prim.Native.Nat.{◌+◌, ◌-◌, ◌*◌, ◌<◌, ◌≤◌}
+use native.Mathlib.Omega.{arith}
+use native.Mathlib.Nat.{mul-suc}
+use lib.IntN.{pos}
+use lib.ListN.{length}
+use Rattle.trace.proofs.Digits.{digit_list-none}
+use Rattle.trace.specs.Inner.{digits_from}
+use Rattle.trace.proofs.Steps.{place_room}
+use Rattle.emethod_c.specs.Foreign.{header_words, word_count, most_words}
+use Rattle.emethod_c.proofs.Words.{word_count-most, same_sets, words_turn, words_all}
+use Rattle.emethod_c.proofs.put_words.Goals as goal
+
+pub loop-j-init : goal.loop-j-init
+loop-j-init c = (omega arith, refl, omega arith, rw (digit_list-none _ _))
+
+pub loop-j-preserved : goal.loop-j-preserved
+loop-j-preserved c =
+    let t = c in
+    let l = t.loop-j in
+    let b = t in (
+      omega (arith, t.loop-j-test.true),
+      same_sets l.words _ l.to (digits_from b.args.d.now (16 * l.j) b.args.h.n) c.put_step_words.ensures ∙ l.invariant.1,
+      omega (arith, l.invariant.2, mul-suc b.args.h.n l.j),
+      words_turn b.args.d.now _ l.words _ b.args.h.n l.j l.to b.requires.0.order_least l.invariant.2 l.invariant.3 c.put_step_words.ensures,
+    )
+
+pub returns : goal.returns
+returns c =
+    let l = c.loop-j in
+    let b = c in
+    words_all b.args.h b.args.k b.args.d.now b.args.words.now _ l.words l.j (omega arith) b.requires.2
+    c.put_header_words.ensures l.invariant.3
