@@ -1,6 +1,6 @@
-//! Links the archives of the library and of what is only measured, which `rt staticlib` writes. Where
-//! `EMETHOD_BEFORE` names a folder with these archives of another commit, they are linked too, with `before_`
-//! in front of their functions' names.
+//! Links the archives of the library and of what is only measured, which `rt lib` writes. Where
+//! `EMETHOD_BEFORE` names the folder `crates` of another commit with its archives, they are linked too, with
+//! `before_` in front of their functions' names.
 //!
 //! What is linked are copies in which each function begins at a multiple of 64. Where a linker puts it
 //! otherwise moves the time of a load by a tenth, and differs with every change of this program.
@@ -32,7 +32,7 @@ fn main() {
         return;
     }
     let here = env::var("CARGO_MANIFEST_DIR").expect("cargo names the folder of the manifest");
-    link(&Path::new(&here).join("../target/staticlib"), "");
+    link(&Path::new(&here).join("../crates"), "");
     if let Some(folder) = env::var_os("EMETHOD_BEFORE") {
         link(Path::new(&folder), "before_");
         println!("cargo:rustc-cfg=before");
@@ -44,11 +44,11 @@ fn link(folder: &Path, prefix: &str) {
     let out = env::var("OUT_DIR").expect("cargo names a folder for what is made here");
     println!("cargo:rustc-link-search=native={out}");
     for (name, functions) in ARCHIVES {
-        let archive = folder.join(format!("lib{name}.a"));
+        let archive = folder.join(format!("{name}/out/lib{name}.a"));
         println!("cargo:rerun-if-changed={}", archive.display());
         if !archive.exists() {
             fail(&format!(
-                "no {}\nrun `rt staticlib {name}` in the root of its repository first",
+                "no {}\nrun `rt lib` in crates/{name} of its repository first",
                 archive.display()
             ));
         }

@@ -1,5 +1,5 @@
 /* The E-method evaluator for host tools in C and C++ on x86-64 Linux: link libemethod_c.a, which
- * `rt staticlib emethod_c` writes. docs/FORMAT.md describes frames, traces and every refusal in full;
+ * `rt lib` writes. docs/FORMAT.md describes frames, traces and every refusal in full;
  * example.c beside this file packs a frame, evaluates it and prints its values.
  *
  * Every call takes numbers and lent memory, and answers one number that carries five:

@@ -1,4 +1,4 @@
-// Functions for the bench alone, built by `rt staticlib bench_c` and linked beside the product's archive: a
+// Functions for the bench alone, built by `rt lib` and linked beside the product's archive: a
 // look into the state that a load makes, to compare it, and a trace written without its job, to measure that.
 #![tactic(auto)]
 

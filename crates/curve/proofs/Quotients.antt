@@ -17,7 +17,7 @@ use Rattle.integers.proofs.Sum.{sum_ext, sum_one, sum-scale}
 use Rattle.system.specs.System.{past_first, quotients_entry}
 use Rattle.system.proofs.Quotients.{diagonal, off_diagonal}
 use Rattle.recurrence.specs.Recurrence.{Solves}
-use Rattle.curve.specs.Curve.{CurveValue, ShortRows, QuotientsValue}
+use Rattle.curve.specs.Curve.{ShortRows, QuotientsValue}
 use Rattle.curve.specs.Quotients.{divisor, quotients_over, quotients_under}
 
 -- ---- the rows, with a vector

@@ -1,5 +1,5 @@
 // The library for host tools in other languages: functions over numbers and lent memory, built by
-// `rt staticlib emethod_c`. emethod.h beside this crate's src/ declares them for C. Each answers one number
+// `rt lib`. emethod.h beside this crate's src/ declares them for C. Each answers one number
 // that carries the refusal, the row, a count, of a frame that it loads the scale, and of an evaluation the
 // additions, and asks nothing of its caller.
 #![tactic(auto)]

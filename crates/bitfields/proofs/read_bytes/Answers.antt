@@ -1,5 +1,5 @@
 use mathlib.Core.Path.{refl}
-use Prim.Native.Nat.{◌+◌, ◌-◌}
+use Prim.Native.Nat.{◌+◌}
 use native.Mathlib.Omega.{arith}
 use Rattle.bitfields.specs.Layout.{number}
 use Rattle.bitfields.proofs.Steps.{read_fits, read_bytes_turn, read_bytes_turn_lt}

@@ -1,12 +1,12 @@
 use mathlib.Core.Path.{◌≡◌, refl, ap, ◌∙◌}
-use Prim.Native.Nat.{ℕ, ◌+◌, ◌-◌, ◌*◌, ◌≤◌}
+use Prim.Native.Nat.{ℕ, ◌+◌, ◌*◌, ◌≤◌}
 use native.Mathlib.Omega.{arith}
 use lib.IntN.{ℤ, pos}
 use lib.ListN.{length, get_or}
 use lib.Seq.{take-length}
 use mir.Syntax.{w64}
 use mir.Val.{to_z, of_z}
-use Rattle.bitfields.specs.Twos.{encode, Fits}
+use Rattle.bitfields.specs.Twos.{Fits}
 use Rattle.bitfields.proofs.Spelling.{slice_bytes}
 use Rattle.bitfields.proofs.Steps.{so_far, so_far_all, step_eq, step_le, write-numbers_turn}
 use Rattle.bitfields.proofs.Twos.{encode_lt, in_word}
@@ -20,25 +20,25 @@ loop-i-init c = (omega arith, omega arith, refl, refl)
 pub write_field-requires : goal.write_field-requires
 write_field-requires c =
     let next : ℤ =
-        get_or c.args.nums.now c.loop-i.i (pos 0) in
+    get_or c.args.nums.now c.loop-i.i (pos 0) in
     let next_fits : Fits c.args.w next =
-        c.requires.5.each_fits c.loop-i.i (omega arith) in
+    c.requires.5.each_fits c.loop-i.i (omega arith) in
     let next-plain : to_z w64 (of_z w64 next) ≡ next =
-        i64_kept next (in_word c.requires.3 next_fits) in
+    i64_kept next (in_word c.requires.3 next_fits) in
     let room : c.args.w * c.loop-i.i + c.args.w ≤ c.args.w * length c.args.nums.now =
-        step_le c.args.w c.loop-i.i (length c.args.nums.now) (omega arith) in
-        let t = c in
+    step_le c.args.w c.loop-i.i (length c.args.nums.now) (omega arith) in
+    let t = c in
     (omega (arith, room), omega arith, omega arith, rw (c.encode.ensures, next-plain) (encode_lt t.requires.2 next_fits))
 
 pub loop-i-preserved : goal.loop-i-preserved
 loop-i-preserved c =
     let next : ℤ =
-        get_or c.args.nums.now c.loop-i.i (pos 0) in
+    get_or c.args.nums.now c.loop-i.i (pos 0) in
     let next_fits : Fits c.args.w next =
-        c.requires.5.each_fits c.loop-i.i (omega arith) in
+    c.requires.5.each_fits c.loop-i.i (omega arith) in
     let next-plain : to_z w64 (of_z w64 next) ≡ next =
-        i64_kept next (in_word c.requires.3 next_fits) in
-        let t = c in
+    i64_kept next (in_word c.requires.3 next_fits) in
+    let t = c in
     let l = t.loop-i in
     let s = t in
     let a = s.args in (

@@ -10,7 +10,7 @@ use Rattle.bitfields.proofs.Steps.{so_far}
 use Rattle.bitfields.proofs.write_numbers.Given as goal
 
 abbrev pub invariant-loop-i : goal.invariant-loop-i
-invariant-loop-i l =     (l.i ≤ length l.nums) × (l.p ≡ l.at + l.w * l.i) × (l.dst ≡ so_far l.initial.dst l.at (each l.w (map (encode l.w) (take l.i l.nums)))) × (length l.dst ≡ length l.initial.dst)
+invariant-loop-i l = (l.i ≤ length l.nums) × (l.p ≡ l.at + l.w * l.i) × (l.dst ≡ so_far l.initial.dst l.at (each l.w (map (encode l.w) (take l.i l.nums)))) × (length l.dst ≡ length l.initial.dst)
 
 abbrev pub decreases-loop-i : goal.decreases-loop-i
 decreases-loop-i l = length l.nums - l.i

@@ -13,16 +13,16 @@ pub sum_after-requires : goal.sum_after-requires
 sum_after-requires c =
     let so_far : let a = c.args in
     c.loop-i.s ≡ stores a.s.now (λ t. a.lo + t) (column_added a.g.now a.j a.lo a.d a.s.now) (c.loop-i.i - a.lo) =
-        rw (digit-kept c.args.d c.requires.digit) at c.loop-i.invariant.2 in
-        let i = c in
+    rw (digit-kept c.args.d c.requires.digit) at c.loop-i.invariant.2 in
+    let i = c in
     may-add-row i.requires i.loop-i.s i.loop-i.i i.loop-i.invariant.0 i.loop-i-test.true so_far
 
 pub loop-i-preserved : goal.loop-i-preserved
 loop-i-preserved c =
     let so_far : let a = c.args in
     c.loop-i.s ≡ stores a.s.now (λ t. a.lo + t) (column_added a.g.now a.j a.lo a.d a.s.now) (c.loop-i.i - a.lo) =
-        rw (digit-kept c.args.d c.requires.digit) at c.loop-i.invariant.2 in
-        let i = c in
+    rw (digit-kept c.args.d c.requires.digit) at c.loop-i.invariant.2 in
+    let i = c in
     let d = i in
     let r = row-added d.requires i.loop-i.s i.loop-i.i i.loop-i.invariant.0 i.loop-i-test.true so_far _ c.sum_after.ensures in
     (omega (arith, i.loop-i.invariant.0), omega (arith, i.loop-i-test.true, i.loop-i.invariant.0), rw (digit-kept d.args.d d.requires.digit) r)

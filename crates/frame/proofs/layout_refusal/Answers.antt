@@ -11,33 +11,33 @@ returns-then-s-lt-HEADER_BYTES c = short_decides c.args.s.now c.if-s-lt-HEADER_B
 pub returns-then-c-gt0 : goal.returns-then-c-gt0
 returns-then-c-gt0 c =
     let read : HeaderRead c.args.s.now c.read_header-h.result c.read_refusal-c.result =
-        record { long = omega arith; header = c.read_header-h.ensures; refusal = c.read_refusal-c.ensures } in
+    record { long = omega arith; header = c.read_header-h.ensures; refusal = c.read_refusal-c.ensures } in
     header_decides read c.if-c-gt0.true
 
 pub frame_length-requires : goal.frame_length-requires
 frame_length-requires c =
     let read : HeaderRead c.args.s.now c.read_header-h.result c.read_refusal-c.result =
-        record { long = omega arith; header = c.read_header-h.ensures; refusal = c.read_refusal-c.ensures } in
+    record { long = omega arith; header = c.read_header-h.ensures; refusal = c.read_refusal-c.ensures } in
     layout-header-limits read c.if-c-gt0.false
 
 pub returns-then-s-frame_length : goal.returns-then-s-frame_length
 returns-then-s-frame_length c =
     let read : HeaderRead c.args.s.now c.read_header-h.result c.read_refusal-c.result =
-        record { long = omega arith; header = c.read_header-h.ensures; refusal = c.read_refusal-c.ensures } in
-        let b = c in
+    record { long = omega arith; header = c.read_header-h.ensures; refusal = c.read_refusal-c.ensures } in
+    let b = c in
     length_decides read b.if-c-gt0.false b.frame_length.ensures c.if-s-frame_length.true
 
 pub frame_bits-requires : goal.frame_bits-requires
 frame_bits-requires c =
     let read : HeaderRead c.args.s.now c.read_header-h.result c.read_refusal-c.result =
-        record { long = omega arith; header = c.read_header-h.ensures; refusal = c.read_refusal-c.ensures } in
+    record { long = omega arith; header = c.read_header-h.ensures; refusal = c.read_refusal-c.ensures } in
     layout-header-limits read c.if-c-gt0.false
 
 pub returns-then-not-fill_is_zero : goal.returns-then-not-fill_is_zero
 returns-then-not-fill_is_zero c =
     let read : HeaderRead c.args.s.now c.read_header-h.result c.read_refusal-c.result =
-        record { long = omega arith; header = c.read_header-h.ensures; refusal = c.read_refusal-c.ensures } in
-        let z = c in
+    record { long = omega arith; header = c.read_header-h.ensures; refusal = c.read_refusal-c.ensures } in
+    let z = c in
     let d = z in
     let b = d in
     fill_decides read b.if-c-gt0.false b.frame_length.ensures
@@ -46,8 +46,8 @@ returns-then-not-fill_is_zero c =
 pub returns : goal.returns
 returns c =
     let read : HeaderRead c.args.s.now c.read_header-h.result c.read_refusal-c.result =
-        record { long = omega arith; header = c.read_header-h.ensures; refusal = c.read_refusal-c.ensures } in
-        let z = c in
+    record { long = omega arith; header = c.read_header-h.ensures; refusal = c.read_refusal-c.ensures } in
+    let z = c in
     let d = z in
     let b = d in
     none_decides read b.if-c-gt0.false b.frame_length.ensures

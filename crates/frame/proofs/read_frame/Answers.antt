@@ -14,58 +14,58 @@ pub slice_bounds-v-end : goal.slice_bounds-v-end
 slice_bounds-v-end c =
     let unpacked : let u = c in
     Unpacked u.args.s.now u.unpack-a.result u.unpack-a.new.v c.count-n.result =
-        unpack_gives _ _ c.unpack-a.ensures c.if-a-gt0.false c.count-n.ensures in
+    unpack_gives _ _ c.unpack-a.ensures c.if-a-gt0.false c.count-n.ensures in
     part_within unpacked
 
 pub slice_bounds-system_verdict-end : goal.slice_bounds-system_verdict-end
 slice_bounds-system_verdict-end c =
     let unpacked : let u = c in
     Unpacked u.args.s.now u.unpack-a.result u.unpack-a.new.v c.count-n.result =
-        unpack_gives _ _ c.unpack-a.ensures c.if-a-gt0.false c.count-n.ensures in
+    unpack_gives _ _ c.unpack-a.ensures c.if-a-gt0.false c.count-n.ensures in
     part_long unpacked
 
 pub system_verdict-d-requires : goal.system_verdict-d-requires
 system_verdict-d-requires c =
     let unpacked : let u = c in
     Unpacked u.args.s.now u.unpack-a.result u.unpack-a.new.v c.count-n.result =
-        unpack_gives _ _ c.unpack-a.ensures c.if-a-gt0.false c.count-n.ensures in
+    unpack_gives _ _ c.unpack-a.ensures c.if-a-gt0.false c.count-n.ensures in
     part_small unpacked
 
 pub returns-then-d-gt0 : goal.returns-then-d-gt0
 returns-then-d-gt0 c =
     let unpacked : let u = c in
     Unpacked u.args.s.now u.unpack-a.result u.unpack-a.new.v c.count-n.result =
-        unpack_gives _ _ c.unpack-a.ensures c.if-a-gt0.false c.count-n.ensures in
-        let d = c in
+    unpack_gives _ _ c.unpack-a.ensures c.if-a-gt0.false c.count-n.ensures in
+    let d = c in
     frame_refuses unpacked _ d.system_verdict-d.ensures c.refused.ensures c.if-d-gt0.true
 
 pub returns-then-room-n : goal.returns-then-room-n
 returns-then-room-n c =
     let unpacked : let u = c in
     Unpacked u.args.s.now u.unpack-a.result u.unpack-a.new.v c.count-n.result =
-        unpack_gives _ _ c.unpack-a.ensures c.if-a-gt0.false c.count-n.ensures in
-        let d = c in
+    unpack_gives _ _ c.unpack-a.ensures c.if-a-gt0.false c.count-n.ensures in
+    let d = c in
     list_decides unpacked _ d.system_verdict-d.ensures c.if-d-gt0.false c.refused-then-room-n.ensures c.if-room-n.true
 
 pub slice_bounds-v-end-2 : goal.slice_bounds-v-end-2
 slice_bounds-v-end-2 c =
     let unpacked : let u = c in
     Unpacked u.args.s.now u.unpack-a.result u.unpack-a.new.v c.count-n.result =
-        unpack_gives _ _ c.unpack-a.ensures c.if-a-gt0.false c.count-n.ensures in
+    unpack_gives _ _ c.unpack-a.ensures c.if-a-gt0.false c.count-n.ensures in
     part_within unpacked
 
 pub slice_bounds-copy-end : goal.slice_bounds-copy-end
 slice_bounds-copy-end c =
     let unpacked : let u = c in
     Unpacked u.args.s.now u.unpack-a.result u.unpack-a.new.v c.count-n.result =
-        unpack_gives _ _ c.unpack-a.ensures c.if-a-gt0.false c.count-n.ensures in
+    unpack_gives _ _ c.unpack-a.ensures c.if-a-gt0.false c.count-n.ensures in
     part_long unpacked
 
 pub returns : goal.returns
 returns c =
     let unpacked : let u = c in
     Unpacked u.args.s.now u.unpack-a.result u.unpack-a.new.v c.count-n.result =
-        unpack_gives _ _ c.unpack-a.ensures c.if-a-gt0.false c.count-n.ensures in
-        let l = c in
+    unpack_gives _ _ c.unpack-a.ensures c.if-a-gt0.false c.count-n.ensures in
+    let l = c in
     let d = l in
     none_decides unpacked _ d.system_verdict-d.ensures l.if-d-gt0.false unpacked.answer c.copy.ensures l.if-room-n.false

@@ -16,20 +16,20 @@ read_header-h-requires c = let r = c in unpack_long r.args.s.now r.layout_refusa
 pub overflow_add-h : goal.overflow_add-h
 overflow_add-h c =
     let read : LayoutRead c.args.s.now c.read_header-h.result =
-        layout_read c.layout_refusal-c.ensures c.if-c-gt0.false c.read_header-h.ensures in
+    layout_read c.layout_refusal-c.ensures c.if-c-gt0.false c.read_header-h.ensures in
     omega (arith, (layout-limits read).fraction_most)
 
 pub count-requires : goal.count-requires
 count-requires c =
     let read : LayoutRead c.args.s.now c.read_header-h.result =
-        layout_read c.layout_refusal-c.ensures c.if-c-gt0.false c.read_header-h.ensures in
+    layout_read c.layout_refusal-c.ensures c.if-c-gt0.false c.read_header-h.ensures in
     order-within _ (layout-limits read)
 
 pub read_numbers-requires : goal.read_numbers-requires
 read_numbers-requires c =
     let read : LayoutRead c.args.s.now c.read_header-h.result =
-        layout_read c.layout_refusal-c.ensures c.if-c-gt0.false c.read_header-h.ensures in
-        let n = c in
+    layout_read c.layout_refusal-c.ensures c.if-c-gt0.false c.read_header-h.ensures in
+    let n = c in
     let h = n in
     let s = h in
     unpack_room read n.count.ensures s.args.v.now s.requires
@@ -37,7 +37,7 @@ read_numbers-requires c =
 pub returns : goal.returns
 returns c =
     let read : LayoutRead c.args.s.now c.read_header-h.result =
-        layout_read c.layout_refusal-c.ensures c.if-c-gt0.false c.read_header-h.ensures in
-        let n = c in
+    layout_read c.layout_refusal-c.ensures c.if-c-gt0.false c.read_header-h.ensures in
+    let n = c in
     let h = n in
     unpack_accepted read n.count.ensures h.args.v.now c.read_numbers.ensures

@@ -1,5 +1,4 @@
 use mathlib.Core.Path.{sym}
-use Prim.Native.Nat.{◌-◌}
 use native.Mathlib.Omega.{arith}
 use Rattle.scale.proofs.LeadingZeros.{peak-zero, peak_raised, peak-kept}
 use Rattle.scale.proofs.largest.Goals as goal
@@ -16,7 +15,7 @@ loop-i-preserved c =
     let a = c.magnitude-a in (
       omega arith,
       elim c.if-top-a.branch [
-        then-top-a w ↦ peak_raised l.i z l.top a.result l.invariant.1 g a.ensures c.if-top-a.top w.if-top-a.true w.top-is
-      | else-top-a w ↦ peak-kept l.i z l.top a.result l.invariant.1 g a.ensures c.if-top-a.top w.if-top-a.false w.top-is
+        | then-top-a w ↦ peak_raised l.i z l.top a.result l.invariant.1 g a.ensures c.if-top-a.top w.if-top-a.true w.top-is
+        | else-top-a w ↦ peak-kept l.i z l.top a.result l.invariant.1 g a.ensures c.if-top-a.top w.if-top-a.false w.top-is
       ],
     )

@@ -1,5 +1,5 @@
 -- The invariant: the column has no entry other than 0 from row hi on. The measure is hi.
-use Prim.Native.Nat.{◌-◌, ◌≤◌}
+use Prim.Native.Nat.{◌≤◌}
 use Rattle.column.specs.Column.{column, Zeros}
 use Rattle.spans.proofs.column_end.Given as goal
 

@@ -1,5 +1,4 @@
 use mathlib.Core.Path.{◌∙◌}
-use Prim.Native.Nat.{◌-◌}
 use native.Mathlib.Omega.{arith}
 use Rattle.integers.proofs.Machine.{i64_kept}
 use Rattle.spans.proofs.ColumnSum.{may_begin, sums_begun, may-add-entries, entries-more}

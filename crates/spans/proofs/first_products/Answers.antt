@@ -1,5 +1,4 @@
 use mathlib.Core.Path.{sym}
-use Prim.Native.Nat.{◌-◌}
 use native.Mathlib.Omega.{arith}
 use Rattle.column.proofs.Added.{digit-kept}
 use Rattle.spans.proofs.ColumnSum.{may_begin_row, row_begun}

@@ -12,7 +12,7 @@ returns-then-header_refusal-gt0 c = header_breaks _ _ c.header_refusal.ensures (
 pub scale_out_of_range-requires : goal.scale_out_of_range-requires
 scale_out_of_range-requires c =
     let limits : Limits c.args.h =
-        header-passes _ _ c.header_refusal.ensures (omega arith) in
+    header-passes _ _ c.header_refusal.ensures (omega arith) in
     limits
 
 pub returns-then-scale_out_of_range : goal.returns-then-scale_out_of_range
@@ -26,30 +26,30 @@ returns-then-last_step-k c =
 pub heavy_row-requires : goal.heavy_row-requires
 heavy_row-requires c =
     let limits : Limits c.args.h =
-        header-passes _ _ c.header_refusal.ensures (omega arith) in
+    header-passes _ _ c.header_refusal.ensures (omega arith) in
     limits
 
 pub returns-then-heavy_row-gt0 : goal.returns-then-heavy_row-gt0
 returns-then-heavy_row-gt0 c =
     let few : let a = c.args in a.k ≤ last_step a.h a.scale =
-        omega (arith, c.last_step.ensures, c.if-last_step-k.false) in
-        let m = c in
+    omega (arith, c.last_step.ensures, c.if-last_step-k.false) in
+    let m = c in
     let l = m in
     row_breaks _ _ l.header_refusal.ensures (omega arith) l.scale_out_of_range.ensures l.if-scale_out_of_range.false few c.heavy_row.ensures (omega arith)
 
 pub large_residual-requires : goal.large_residual-requires
 large_residual-requires c =
     let limits : Limits c.args.h =
-        header-passes _ _ c.header_refusal.ensures (omega arith) in
+    header-passes _ _ c.header_refusal.ensures (omega arith) in
     let scaled : let a = c.args in ScaleLimits a.h a.scale =
-        scale-passes _ _ c.header_refusal.ensures (omega arith) _ _ c.scale_out_of_range.ensures c.if-scale_out_of_range.false in
+    scale-passes _ _ c.header_refusal.ensures (omega arith) _ _ c.scale_out_of_range.ensures c.if-scale_out_of_range.false in
     let l = c in (limits, scaled)
 
 pub returns-then-large_residual-gt0 : goal.returns-then-large_residual-gt0
 returns-then-large_residual-gt0 c =
     let few : let a = c.args in a.k ≤ last_step a.h a.scale =
-        omega (arith, c.last_step.ensures, c.if-last_step-k.false) in
-        let r = c in
+    omega (arith, c.last_step.ensures, c.if-last_step-k.false) in
+    let r = c in
     let m = r in
     let l = m in
     residual_breaks _ _ l.header_refusal.ensures (omega arith) l.scale_out_of_range.ensures l.if-scale_out_of_range.false few r.heavy_row.ensures (omega arith) c.large_residual.ensures (omega arith)
@@ -57,8 +57,8 @@ returns-then-large_residual-gt0 c =
 pub returns : goal.returns
 returns c =
     let few : let a = c.args in a.k ≤ last_step a.h a.scale =
-        omega (arith, c.last_step.ensures, c.if-last_step-k.false) in
-        let z = c in
+    omega (arith, c.last_step.ensures, c.if-last_step-k.false) in
+    let z = c in
     let r = z in
     let m = r in
     let l = m in

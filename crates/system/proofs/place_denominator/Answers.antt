@@ -1,5 +1,5 @@
 use mathlib.Core.Path.{sym}
-use Prim.Native.Nat.{◌+◌, ◌-◌, ◌^◌}
+use Prim.Native.Nat.{◌+◌, ◌^◌}
 use native.Mathlib.Omega.{arith}
 use Rattle.integers.specs.Sum.{Within}
 use Rattle.integers.proofs.Stores.{stores-zero}
@@ -15,7 +15,7 @@ loop-i-init c = (omega arith, sym (stores-zero _ _ _))
 pub loop-i-preserved : goal.loop-i-preserved
 loop-i-preserved c =
     let coefficient : Within (denominator c.args.n c.args.v.now (c.loop-i.i + 1)) (2 ^ 41) =
-        let st = c in
+    let st = c in
     st.requires.1.small (st.args.n + (c.loop-i.i + 1)) (omega arith) in
-        let l = c.loop-i in
+    let l = c.loop-i in
     (omega arith, stores-more _ denominator_place _ l.i l.g _ l.invariant.1 (negated_is coefficient))

@@ -26,20 +26,20 @@ returns-then-h-eq3 c =
 pub returns-then-h-eq0 : goal.returns-then-h-eq0
 returns-then-h-eq0 c =
     let with_argument : c.place_argument.new.g ≡ flat_matrix c.args.h.n (curve_entry (argument c.args.v.now) no_denominator) =
-        let st = c in
+    let st = c in
     argument_read st.args.h.n st.args.v.now _ c.place_argument-arg-2-1.given (argument_placed st.args.h.n st.requires.0.order_most _ _ _ st.requires.2 c.place_argument.ensures) in
-        let st = c in
+    let st = c in
     polynomial_is st.args.h.kind st.args.h.n (unit st.args.h) st.args.v.now _ c.if-h-eq0.true with_argument
 
 pub returns : goal.returns
 returns c =
     let with_argument : c.place_argument.new.g ≡ flat_matrix c.args.h.n (curve_entry (argument c.args.v.now) no_denominator) =
-        let st = c in
+    let st = c in
     argument_read st.args.h.n st.args.v.now _ c.place_argument-arg-2-1.given (argument_placed st.args.h.n st.requires.0.order_most _ _ _ st.requires.2 c.place_argument.ensures) in
     let second : c.args.h.kind ≡ 1 =
-        let st = c in
+    let st = c in
     rational-kind st.args.h.kind st.requires.0.kind_most c.if-h-eq0.false c.if-h-eq2.false c.if-h-eq3.false in
-        let st = c in
+    let st = c in
     rational_is st.args.h.kind st.args.h.n (unit st.args.h) st.args.v.now _ second
     (denominator_placed st.args.h.n st.requires.0.order_most (argument st.args.v.now) (denominator st.args.h.n st.args.v.now) _ _
     with_argument c.place_denominator.ensures)

@@ -1,8 +1,7 @@
 use mathlib.Core.Path.{sym}
-use Prim.Native.Nat.{◌+◌, ◌*◌, ◌-◌}
+use Prim.Native.Nat.{◌+◌, ◌*◌}
 use native.Mathlib.Omega.{arith}
 use Rattle.integers.proofs.Stores.{stores-zero}
-use Rattle.system.specs.System.{system_entry}
 use Rattle.system.proofs.Numbers.{entry_read}
 use Rattle.system.proofs.Arrays.{stores-more}
 use Rattle.system.proofs.place_row.Goals as goal

@@ -1,5 +1,4 @@
 use mathlib.Core.Path.{◌∙◌}
-use Prim.Native.Nat.{◌-◌}
 use native.Mathlib.Omega.{arith}
 use Rattle.system.specs.System.{system_entry}
 use Rattle.system.proofs.Setup.{rows_none, rows_placed}

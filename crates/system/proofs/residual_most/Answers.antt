@@ -7,5 +7,5 @@ use Rattle.system.proofs.residual_most.Goals as goal
 pub overflow_mul-pow2 : goal.overflow_mul-pow2
 overflow_mul-pow2 c =
     let few : c.pow2.result ≤ 2 ^ 44 =
-        rw c.pow2.ensures (pow_mono {j = 44} c.inner_bits.ensures.2) in
+    rw c.pow2.ensures (pow_mono {j = 44} c.inner_bits.ensures.2) in
     omega (arith, few)

@@ -1,5 +1,5 @@
 use mathlib.Core.Path.{◌≡◌, sym, ap, ◌∙◌}
-use Prim.Native.Nat.{◌+◌, ◌-◌, ◌<◌}
+use Prim.Native.Nat.{◌+◌, ◌<◌}
 use native.Mathlib.Omega.{arith}
 use lib.IntN.{pos}
 use lib.ListN.{replicate}
@@ -7,7 +7,7 @@ use Rattle.integers.proofs.Stores.{stores-zero}
 use Rattle.job.specs.Header.{count}
 use Rattle.job.specs.Kind.{kind_of}
 use Rattle.job.proofs.Limits.{count_most}
-use Rattle.system.specs.System.{right_place, right_side_of}
+use Rattle.system.specs.System.{right_side_of}
 use Rattle.system.proofs.Numbers.{right_read, right_place-most}
 use Rattle.system.proofs.Arrays.{stores-more, vector_stored}
 use Rattle.system.proofs.right_sides.Goals as goal
@@ -27,24 +27,24 @@ loop-i-init c =
 pub offset_bounds-v-place : goal.offset_bounds-v-place
 offset_bounds-v-place c =
     let placed : c.loop-i.place < count c.args.h =
-        let st = c in
+    let st = c in
     rw c.loop-i.invariant.2 (right_place-most st.args.h.kind st.args.h.n c.loop-i.i st.requires.0.kind_most c.loop-i-test.true) in
-        let st = c in
+    let st = c in
     omega (arith, placed, count_most (kind_of st.args.h.kind) st.args.h.n st.requires.0.order_most)
 
 pub bounds-v-place : goal.bounds-v-place
 bounds-v-place c =
     let placed : c.loop-i.place < count c.args.h =
-        let st = c in
+    let st = c in
     rw c.loop-i.invariant.2 (right_place-most st.args.h.kind st.args.h.n c.loop-i.i st.requires.0.kind_most c.loop-i-test.true) in
     omega (arith, placed, c.requires.1)
 
 pub overflow_add-place : goal.overflow_add-place
 overflow_add-place c =
     let placed : c.loop-i.place < count c.args.h =
-        let st = c in
+    let st = c in
     rw c.loop-i.invariant.2 (right_place-most st.args.h.kind st.args.h.n c.loop-i.i st.requires.0.kind_most c.loop-i-test.true) in
-        let st = c in
+    let st = c in
     omega (arith, placed, c.loop-i.invariant.3.small, count_most (kind_of st.args.h.kind) st.args.h.n st.requires.0.order_most)
 
 pub loop-i-preserved : goal.loop-i-preserved
