@@ -5,7 +5,7 @@ use mathlib.Core.List.{List, [], ◌∷◌}
 use Prim.Native.Nat.{ℕ, zero, suc, ◌*◌, ◌<◌}
 use native.Mathlib.Omega.{arith}
 use lib.IntN.{pos, nat_abs, ◌-ℤ◌, ◌*ℤ◌}
-use Rattle.integers.specs.Flat.{at, list_from, stores}
+use Rattle.integers.specs.Flat.{list_from, stores}
 use Rattle.integers.specs.Sum.{dot, weight, sum, total}
 use Rattle.bitfields.specs.Layout.{field, number, bits, values_from}
 use Rattle.bitfields.specs.Twos.{decode}

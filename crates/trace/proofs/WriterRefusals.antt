@@ -7,7 +7,6 @@ use native.Mathlib.Omega.{arith}
 use borrow.Author.Tests.{le-ltb, lt-ltb, ne_eqb}
 use lib.IntN.{ℤ}
 use lib.ListN.{length}
-use Rattle.integers.specs.Flat.{at}
 use Rattle.bitfields.specs.Layout.{written}
 use Rattle.job.specs.Header.{trace_header_checks, Limits}
 use Rattle.job.proofs.Limits.{trace-limits}

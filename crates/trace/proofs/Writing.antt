@@ -12,7 +12,7 @@ use lib.ListN.{length, length-map}
 use lib.Seq.{length-sets, sets}
 use Rattle.integers.specs.Flat.{at, list_from}
 use Rattle.integers.proofs.Flat.{length-list_from, getD_list_from}
-use Rattle.bitfields.specs.Layout.{Field, bits, number, Fit, more, Bytes, put, written}
+use Rattle.bitfields.specs.Layout.{Field, bits, number, Fit, Bytes, put, written}
 use Rattle.bitfields.specs.Twos.{encode, AllFit}
 use Rattle.bitfields.proofs.Spelling.{bits_each, bits-append, bits-one, fit_append, number_append, number_lt, number-one}
 use Rattle.bitfields.proofs.Writing.{put_joined, put_written, put-zero}

@@ -1,5 +1,4 @@
 use mathlib.Core.Path.{refl, ◌∙◌}
-use Prim.Native.Nat.{◌-◌}
 use native.Mathlib.Omega.{arith}
 use Rattle.bench_c.proofs.Rewriting.{rewrite_none, rewrite_turn}
 use Rattle.bench_c.proofs.rewrite.Goals as goal

@@ -32,8 +32,8 @@ pub make_steps-additions-requires : goal.make_steps-additions-requires
 make_steps-additions-requires c =
     let allowed : let l = c in
     c.steps_allowed-made.result ≡ smaller (state_last l.load-l.result.state) (budgets (advances l.args.budgets.now)) =
-        rw c.last_step.ensures at c.steps_allowed-made.ensures in
-        let m = c in
+    rw c.last_step.ensures at c.steps_allowed-made.ensures in
+    let m = c in
     let e = m in
     let l = e in
     let a = l.args in
@@ -43,8 +43,8 @@ pub returns-then-out-h : goal.returns-then-out-h
 returns-then-out-h c =
     let allowed : let l = c in
     c.steps_allowed-made.result ≡ smaller (state_last l.load-l.result.state) (budgets (advances l.args.budgets.now)) =
-        rw c.last_step.ensures at c.steps_allowed-made.ensures in
-        let k = c in
+    rw c.last_step.ensures at c.steps_allowed-made.ensures in
+    let k = c in
     let m = k in
     let e = m in
     let l = e in
@@ -55,8 +55,8 @@ pub put_readings-requires : goal.put_readings-requires
 put_readings-requires c =
     let allowed : let l = c in
     c.steps_allowed-made.result ≡ smaller (state_last l.load-l.result.state) (budgets (advances l.args.budgets.now)) =
-        rw c.last_step.ensures at c.steps_allowed-made.ensures in
-        let o = c in
+    rw c.last_step.ensures at c.steps_allowed-made.ensures in
+    let o = c in
     let k = o in
     let m = k in
     let e = m in
@@ -68,8 +68,8 @@ pub returns : goal.returns
 returns c =
     let allowed : let l = c in
     c.steps_allowed-made.result ≡ smaller (state_last l.load-l.result.state) (budgets (advances l.args.budgets.now)) =
-        rw c.last_step.ensures at c.steps_allowed-made.ensures in
-        let q = c in
+    rw c.last_step.ensures at c.steps_allowed-made.ensures in
+    let q = c in
     let o = q in
     let k = o in
     let m = k in

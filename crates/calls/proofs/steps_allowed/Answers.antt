@@ -1,5 +1,5 @@
 use mathlib.Core.Path.{◌≡◌}
-use Prim.Native.Nat.{◌+◌, ◌-◌, ◌≤◌}
+use Prim.Native.Nat.{◌+◌, ◌≤◌}
 use native.Mathlib.Omega.{arith}
 use lib.ListN.{take}
 use Rattle.evaluator.specs.Evaluator.{smaller}
@@ -14,7 +14,7 @@ pub loop-i-preserved : goal.loop-i-preserved
 loop-i-preserved c =
     let next : let l = c.loop-i in let a = c.args in
     (l.made + c.smaller.result ≡ smaller a.last (budgets (advances (take (l.i + 1) a.list.now)))) × (l.made + c.smaller.result ≤ a.last) =
-        let l = c.loop-i in
+    let l = c.loop-i in
     let a = c.args in
     let e = allowed_more a.last l.made c.smaller.result a.list.now l.i (omega arith) l.invariant.2 c.smaller.ensures in
     (e, allowed_most a.last _ _ e) in

@@ -1,4 +1,3 @@
-use Prim.Native.Nat.{◌-◌}
 use native.Mathlib.Omega.{arith}
 use Rattle.choice.proofs.Chosen.{chosen_none, may_choose_next, chosen_next}
 use Rattle.choice.proofs.choose.Goals as goal

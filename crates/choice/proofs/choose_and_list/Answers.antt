@@ -1,4 +1,4 @@
-use Prim.Native.Nat.{ℕ, ◌-◌, ◌<◌, ◌^◌}
+use Prim.Native.Nat.{ℕ, ◌<◌, ◌^◌}
 use native.Mathlib.Omega.{arith}
 use lib.IntN.{ℤ}
 use lib.Pow.{pow_pos}
@@ -31,8 +31,8 @@ column_place-requires c =
 pub loop-i-preserved : goal.loop-i-preserved
 loop-i-preserved c =
     let digits : ℕ → ℤ =
-        digit_from 2 c.args.q 1 (2 ^ c.args.f) c.args.z.now c.args.s.now in
-        let a = c in
+    digit_from 2 c.args.q 1 (2 ^ c.args.f) c.args.z.now c.args.s.now in
+    let a = c in
     let b = a in
     let i = b in
     let l = i.loop-i in

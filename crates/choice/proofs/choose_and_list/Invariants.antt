@@ -10,7 +10,7 @@ use Rattle.counts.proofs.Counting.{Counting}
 use Rattle.choice.proofs.choose_and_list.Given as goal
 
 abbrev pub invariant-loop-i : goal.invariant-loop-i
-invariant-loop-i l =     (l.i ≤ l.n) × Chosen l.k 2 l.q 1 (2 ^ l.f) l.s l.initial.z l.initial.new l.initial.digits l.i l.z l.new l.digits × Listed l.i (digit_from 2 l.q 1 (2 ^ l.f) l.initial.z l.s) l.list l.count
+invariant-loop-i l = (l.i ≤ l.n) × Chosen l.k 2 l.q 1 (2 ^ l.f) l.s l.initial.z l.initial.new l.initial.digits l.i l.z l.new l.digits × Listed l.i (digit_from 2 l.q 1 (2 ^ l.f) l.initial.z l.s) l.list l.count
     × Counting (λ j x. x + nonzero (digit_from 2 l.q 1 (2 ^ l.f) l.initial.z l.s j)) l.initial.times l.i l.times
 
 abbrev pub decreases-loop-i : goal.decreases-loop-i

@@ -1,5 +1,4 @@
 use mathlib.Core.Path.{sym}
-use Prim.Native.Nat.{◌-◌}
 use native.Mathlib.Omega.{arith}
 use Rattle.integers.proofs.Sum.{total-zero}
 use Rattle.state.specs.State.{digits_of}

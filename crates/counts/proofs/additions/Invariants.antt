@@ -8,7 +8,7 @@ use Rattle.state.specs.State.{digits_of}
 use Rattle.counts.proofs.additions.Given as goal
 
 abbrev pub invariant-loop-j : goal.invariant-loop-j
-invariant-loop-j l =     (l.j ≤ l.n) × (l.a ≡ total l.j (λ i. (get_or l.t i 0 - nonzero (digits_of l.digits l.k i)) * get_or l.e i 0))
+invariant-loop-j l = (l.j ≤ l.n) × (l.a ≡ total l.j (λ i. (get_or l.t i 0 - nonzero (digits_of l.digits l.k i)) * get_or l.e i 0))
 
 abbrev pub decreases-loop-j : goal.decreases-loop-j
 decreases-loop-j l = l.n - l.j

@@ -1,5 +1,4 @@
 use mathlib.Core.Path.{◌∙◌}
-use Prim.Native.Nat.{◌-◌}
 use native.Mathlib.Omega.{arith}
 use Rattle.counts.proofs.Counting.{no_entries, entries_next, entries-few, entries_all}
 use Rattle.counts.proofs.column_entries.Goals as goal

@@ -1,5 +1,5 @@
 use mathlib.Core.Path.{◌≡◌, refl, ap, ◌∙◌}
-use Prim.Native.Nat.{◌-◌, min}
+use Prim.Native.Nat.{min}
 use native.Mathlib.Omega.{arith}
 use lib.ListN.{length, length-set}
 use Rattle.integers.specs.Flat.{list_from}
@@ -19,13 +19,13 @@ loop-x-preserved c =
     let l = c.loop-x in
     let a = c.args in
     elim c.if-x-n.branch [
-      then-x-n w ↦ (
+      | then-x-n w ↦ (
         omega arith,
         ap length w.words-is ∙ simp length-set l.invariant.1,
         digit-put a.d.now a.words.now l.words c.if-x-n.words a.from a.to l.x a.n _ w.if-x-n.true l.invariant.2 w.words-is
             (i64_kept w.widen.result w.widen.type_inv ∙ w.widen.ensures) w.widen-arg-1.given,
       )
-    | else-x-n w ↦ (
+      | else-x-n w ↦ (
         omega arith,
         ap length w.words-is ∙ l.invariant.1,
         digit-none a.d.now a.words.now l.words c.if-x-n.words a.from a.to l.x a.n w.if-x-n.false l.invariant.2 w.words-is,

@@ -1,15 +1,10 @@
-use mathlib.Core.List.{map}
-use mathlib.Core.Path.{◌≡◌, refl, ◌∙◌}
-use Prim.Native.Nat.{◌+◌, ◌-◌, ◌*◌, ◌<◌, ◌≤◌}
+use mathlib.Core.Path.{refl, ◌∙◌}
+use Prim.Native.Nat.{◌*◌}
 use native.Mathlib.Omega.{arith}
 use native.Mathlib.Nat.{mul-suc}
-use lib.IntN.{pos}
-use lib.ListN.{length}
 use Rattle.trace.proofs.Digits.{digit_list-none}
 use Rattle.trace.specs.Inner.{digits_from}
-use Rattle.trace.proofs.Steps.{place_room}
-use Rattle.emethod_c.specs.Foreign.{header_words, word_count, most_words}
-use Rattle.emethod_c.proofs.Words.{word_count-most, same_sets, words_turn, words_all}
+use Rattle.emethod_c.proofs.Words.{same_sets, words_turn, words_all}
 use Rattle.emethod_c.proofs.put_words.Goals as goal
 
 pub loop-j-init : goal.loop-j-init

@@ -1,13 +1,10 @@
 -- What is made is what is left of the steps and the budget; the state is put together from the arrays that
 -- the steps leave.
-use mathlib.Core.Path.{◌≡◌, sym, ◌∙◌}
+use mathlib.Core.Path.{◌≡◌}
 use mathlib.Core.Bool.{true}
-use mathlib.Core.List.{map}
 use Prim.Native.Nat.{◌-◌, ◌<◌}
 use native.Mathlib.Omega.{arith}
-use borrow.Kind.Array.{good_length, e_s_int}
-use lib.ListN.{length, length-map}
-use mir.Syntax.{w8}
+use lib.ListN.{length}
 use Rattle.job.proofs.Limits.{steps-small, scale_small}
 use Rattle.state.specs.State.{PassesLimits, state_last}
 use Rattle.stepping.specs.Inner.{MayStep}
@@ -21,21 +18,21 @@ advance_refusal-refusal-requires c = unrefused_limits c.args.s _ c.check-bad.ens
 pub last_step-requires : goal.last_step-requires
 last_step-requires c =
     let accepted : let s = c.args.s in (s.busy ≡ true) × PassesLimits s × (s.k < state_last s) =
-        let a = c.args in
+    let a = c.args in
     advance_takes a.s a.budget _ _ c.check-bad.ensures c.advance_refusal-refusal.ensures c.if-refusal-eq0.true in
-        let s = c.args.s in
+    let s = c.args.s in
     let p = accepted.1 in
     (steps-small s.header p.limits, scale_small s.header s.scale p.scaled)
 
 pub make_steps-additions-requires : goal.make_steps-additions-requires
 make_steps-additions-requires c =
     let accepted : let s = c.args.s in (s.busy ≡ true) × PassesLimits s × (s.k < state_last s) =
-        let a = c.args in
+    let a = c.args in
     advance_takes a.s a.budget _ _ c.check-bad.ensures c.advance_refusal-refusal.ensures c.if-refusal-eq0.true in
     let room : length c.args.s.digits ≡ 960 =
     c.well_formed.0.1.1.1.1.1.1.1.1.0.1.0.1 in
     let may-step : MayStep c.args.s c.smaller-made.result =
-        let l = c in
+    let l = c in
     let t = l in
     let a = t.args in
     let h = accepted in
@@ -44,16 +41,16 @@ make_steps-additions-requires c =
       room = room;
       left = omega (arith, h.2, c.smaller-made.ensures, smaller-most a.budget (l.last_step.result - a.s.k), l.last_step.ensures);
     } in
-        let l = c in
+    let l = c in
     let t = l in
     rw (busy_whole t.args.s accepted.0) may-step
 
 pub returns-then-refusal-eq0 : goal.returns-then-refusal-eq0
 returns-then-refusal-eq0 c =
     let accepted : let s = c.args.s in (s.busy ≡ true) × PassesLimits s × (s.k < state_last s) =
-        let a = c.args in
+    let a = c.args in
     advance_takes a.s a.budget _ _ c.check-bad.ensures c.advance_refusal-refusal.ensures c.if-refusal-eq0.true in
-        let l = c in
+    let l = c in
     let t = l in
     let r = t in
     let a = r.args in

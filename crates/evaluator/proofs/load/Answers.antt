@@ -15,43 +15,43 @@ pub slice_bounds-v-end : goal.slice_bounds-v-end
 slice_bounds-v-end c =
     let unpacked : let u = c in
     Unpacked u.args.s.now u.unpack-a.result u.unpack-a.new.v c.count-n.result =
-        unpack_gives _ _ c.unpack-a.ensures c.if-a-gt0.false c.count-n.ensures in
+    unpack_gives _ _ c.unpack-a.ensures c.if-a-gt0.false c.count-n.ensures in
     part_within unpacked
 
 pub slice_bounds-numbers-end : goal.slice_bounds-numbers-end
 slice_bounds-numbers-end c =
     let unpacked : let u = c in
     Unpacked u.args.s.now u.unpack-a.result u.unpack-a.new.v c.count-n.result =
-        unpack_gives _ _ c.unpack-a.ensures c.if-a-gt0.false c.count-n.ensures in
+    unpack_gives _ _ c.unpack-a.ensures c.if-a-gt0.false c.count-n.ensures in
     part_long unpacked
 
 pub right_sides-z-requires : goal.right_sides-z-requires
 right_sides-z-requires c =
     let unpacked : let u = c in
     Unpacked u.args.s.now u.unpack-a.result u.unpack-a.new.v c.count-n.result =
-        unpack_gives _ _ c.unpack-a.ensures c.if-a-gt0.false c.count-n.ensures in
+    unpack_gives _ _ c.unpack-a.ensures c.if-a-gt0.false c.count-n.ensures in
     let p = part_small unpacked in (p.0, p.1.enough)
 
 pub place_matrix-requires : goal.place_matrix-requires
 place_matrix-requires c =
     let unpacked : let u = c in
     Unpacked u.args.s.now u.unpack-a.result u.unpack-a.new.v c.count-n.result =
-        unpack_gives _ _ c.unpack-a.ensures c.if-a-gt0.false c.count-n.ensures in
+    unpack_gives _ _ c.unpack-a.ensures c.if-a-gt0.false c.count-n.ensures in
     let p = part_small unpacked in (p.0, p.1, refl)
 
 pub weigh-w-requires : goal.weigh-w-requires
 weigh-w-requires c =
     let unpacked : let u = c in
     Unpacked u.args.s.now u.unpack-a.result u.unpack-a.new.v c.count-n.result =
-        unpack_gives _ _ c.unpack-a.ensures c.if-a-gt0.false c.count-n.ensures in
+    unpack_gives _ _ c.unpack-a.ensures c.if-a-gt0.false c.count-n.ensures in
     load_weighs unpacked c.right_sides-z.ensures
 
 pub returns-then-w-gt0 : goal.returns-then-w-gt0
 returns-then-w-gt0 c =
     let unpacked : let u = c in
     Unpacked u.args.s.now u.unpack-a.result u.unpack-a.new.v c.count-n.result =
-        unpack_gives _ _ c.unpack-a.ensures c.if-a-gt0.false c.count-n.ensures in
-        let d = c in
+    unpack_gives _ _ c.unpack-a.ensures c.if-a-gt0.false c.count-n.ensures in
+    let d = c in
     let g = d in
     load_refuses unpacked g.place_matrix.ensures g.right_sides-z.ensures d.weigh-w.ensures c.if-w-gt0.true c.refused-then-w-gt0.ensures
 
@@ -59,7 +59,7 @@ pub returns : goal.returns
 returns c =
     let unpacked : let u = c in
     Unpacked u.args.s.now u.unpack-a.result u.unpack-a.new.v c.count-n.result =
-        unpack_gives _ _ c.unpack-a.ensures c.if-a-gt0.false c.count-n.ensures in
-        let d = c in
+    unpack_gives _ _ c.unpack-a.ensures c.if-a-gt0.false c.count-n.ensures in
+    let d = c in
     let g = d in
     load_makes unpacked g.place_matrix.ensures g.right_sides-z.ensures d.weigh-w.ensures c.if-w-gt0.false

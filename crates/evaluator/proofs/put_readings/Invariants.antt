@@ -9,7 +9,7 @@ use Rattle.evaluator.proofs.Arrays.{replaced}
 use Rattle.evaluator.proofs.put_readings.Given as goal
 
 abbrev pub invariant-loop-i : goal.invariant-loop-i
-invariant-loop-i l =     (l.i ≤ l.n) × (length l.out ≡ length l.initial.out) × (l.out ≡ replaced l.initial.out l.n (reading l.r (digits_of l.digits) l.k) l.i)
+invariant-loop-i l = (l.i ≤ l.n) × (length l.out ≡ length l.initial.out) × (l.out ≡ replaced l.initial.out l.n (reading l.r (digits_of l.digits) l.k) l.i)
 
 abbrev pub decreases-loop-i : goal.decreases-loop-i
 decreases-loop-i l = l.n - l.i

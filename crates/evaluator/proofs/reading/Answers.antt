@@ -1,5 +1,4 @@
 use mathlib.Core.Path.{sym}
-use Prim.Native.Nat.{◌-◌}
 use native.Mathlib.Omega.{arith}
 use Rattle.evaluator.proofs.Horner.{reading-zero, reading-product-fits, reading-sum-fits, reading-next}
 use Rattle.evaluator.proofs.reading.Goals as goal

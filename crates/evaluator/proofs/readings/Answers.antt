@@ -9,7 +9,7 @@ use Rattle.evaluator.proofs.readings.Goals as goal
 pub put_readings-requires : goal.put_readings-requires
 put_readings-requires c =
     let accepted : let a = c.args in PassesLimits a.s × (a.s.header.n ≤ length a.out.now) =
-        let a = c.args in
+    let a = c.args in
     readings_takes a.s a.out.now _ _ c.check-bad.ensures c.readings_refusal-answer.ensures c.if-answer-eq0.true in
     let h = accepted in (may_read_rows h.0, h.1)
 

@@ -6,7 +6,7 @@ use Rattle.state.specs.State.{digits_of}
 use Rattle.evaluator.proofs.two_readings.Given as goal
 
 abbrev pub invariant-loop-j : goal.invariant-loop-j
-invariant-loop-j l =     (l.j ≤ l.k) × (l.first ≡ reading l.r (digits_of l.digits) l.j l.i) × (l.second ≡ reading l.r (digits_of l.digits) l.j (l.i + 1))
+invariant-loop-j l = (l.j ≤ l.k) × (l.first ≡ reading l.r (digits_of l.digits) l.j l.i) × (l.second ≡ reading l.r (digits_of l.digits) l.j (l.i + 1))
 
 abbrev pub decreases-loop-j : goal.decreases-loop-j
 decreases-loop-j l = l.k - l.j

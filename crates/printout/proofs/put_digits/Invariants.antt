@@ -9,7 +9,7 @@ use Rattle.printout.proofs.Lines.{spaced}
 use Rattle.printout.proofs.put_digits.Given as goal
 
 abbrev pub invariant-loop-i : goal.invariant-loop-i
-invariant-loop-i l =     (l.i ≤ l.n) × (length l.out ≡ length l.initial.out) × Put l.initial.out l.at (spaced l.i (digits_of l.digits (suc l.t))) l.out l.end
+invariant-loop-i l = (l.i ≤ l.n) × (length l.out ≡ length l.initial.out) × Put l.initial.out l.at (spaced l.i (digits_of l.digits (suc l.t))) l.out l.end
 
 abbrev pub decreases-loop-i : goal.decreases-loop-i
 decreases-loop-i l = l.n - l.i

@@ -1,5 +1,4 @@
 use mathlib.Core.Path.{refl, ◌∙◌}
-use Prim.Native.Nat.{◌-◌}
 use native.Mathlib.Omega.{arith}
 use Rattle.printout.proofs.Lines.{steps-start, step_room, steps_next}
 use Rattle.printout.proofs.put_step_lines.Goals as goal

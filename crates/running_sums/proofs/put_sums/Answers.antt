@@ -1,4 +1,3 @@
-use Prim.Native.Nat.{◌-◌}
 use native.Mathlib.Omega.{arith}
 use lib.IntN.{ℤ}
 use Rattle.integers.specs.Flat.{at}
@@ -19,8 +18,8 @@ add_column-requires c =
 pub put_column-requires : goal.put_column-requires
 put_column-requires c =
     let digit : ℤ =
-        at c.args.d.now c.loop-j.j in
-        let t = c in
+    at c.args.d.now c.loop-j.j in
+    let t = c in
     let i = t in
     may-put-column i.loop-j.invariant.1 i.requires i.loop-j-test.true _ c.widen.ensures (not_skipped digit t.if-digit-ne0.true)
 
@@ -33,16 +32,16 @@ overflow_add-to-then-digit-ne0 c =
 pub loop-j-preserved : goal.loop-j-preserved
 loop-j-preserved c =
     let digit : ℤ =
-        at c.args.d.now c.loop-j.j in
-        let i = c in
+    at c.args.d.now c.loop-j.j in
+    let i = c in
     let l = i.loop-j in
     elim c.if-digit-ne0.branch [
-      then-digit-ne0 w ↦ (
+      | then-digit-ne0 w ↦ (
         omega (arith, i.loop-j-test.true),
         rw (w.out-is, w.s-is, w.to-is)
             (column-put l.invariant.1 i.requires i.loop-j-test.true _ w.widen.ensures (not_skipped digit w.if-digit-ne0.true) w.add_column.ensures w.put_column.ensures),
       )
-    | else-digit-ne0 w ↦ (
+      | else-digit-ne0 w ↦ (
         omega (arith, i.loop-j-test.true),
         rw (w.out-is, w.s-is, w.to-is)
             (column-skipped l.invariant.1 (zero-skipped digit c.digit-1.given w.if-digit-ne0.false)),

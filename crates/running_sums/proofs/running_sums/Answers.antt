@@ -19,7 +19,7 @@ last_digits-d-requires c =
 pub overflow_add-count : goal.overflow_add-count
 overflow_add-count c =
     let order : c.args.s.header.n ≤ 16 =
-        let e = c in
+    let e = c in
     let a = e.args in
     (may_copy_digits a.s a.out.now _ e.check-bad.ensures e.if-bad-gt0.false).1 in
     omega (arith, order)
@@ -27,7 +27,7 @@ overflow_add-count c =
 pub count_columns-requires : goal.count_columns-requires
 count_columns-requires c =
     let order : c.args.s.header.n ≤ 16 =
-        let e = c in
+    let e = c in
     let a = e.args in
     (may_copy_digits a.s a.out.now _ e.check-bad.ensures e.if-bad-gt0.false).1 in
     order

@@ -1,5 +1,4 @@
 use mathlib.Core.Path.{sym}
-use Prim.Native.Nat.{◌-◌}
 use native.Mathlib.Omega.{arith}
 use Rattle.integers.proofs.Filled.{filled_zero, filled_next}
 use Rattle.signs.proofs.Table.{added-fits, added_is}

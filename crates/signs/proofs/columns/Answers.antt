@@ -1,4 +1,3 @@
-use Prim.Native.Nat.{◌-◌}
 use native.Mathlib.Omega.{arith}
 use Rattle.spans.proofs.ColumnSpan.{found_none}
 use Rattle.signs.proofs.Table.{tabulated_none}

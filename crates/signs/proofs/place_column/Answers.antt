@@ -1,5 +1,5 @@
 use mathlib.Core.Path.{◌≡◌}
-use Prim.Native.Nat.{◌+◌, ◌*◌, ◌-◌}
+use Prim.Native.Nat.{◌+◌, ◌*◌}
 use native.Mathlib.Omega.{arith}
 use Rattle.spans.proofs.ColumnSpan.{no_zeros}
 use Rattle.counts.proofs.Counting.{no_entries, entries_next, entries-few}

@@ -1,5 +1,4 @@
 use mathlib.Core.Path.{◌≡◌, sym, ◌∙◌}
-use Prim.Native.Nat.{◌-◌}
 use native.Mathlib.Omega.{arith}
 use Rattle.integers.proofs.Stores.{stores-zero}
 use Rattle.system.proofs.Arrays.{stores-more, vector_stored}

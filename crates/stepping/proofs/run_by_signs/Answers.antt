@@ -1,6 +1,5 @@
 use mathlib.Core.Path.{◌≡◌, refl}
-use mathlib.Core.Bool.{true}
-use Prim.Native.Nat.{◌+◌, ◌-◌}
+use Prim.Native.Nat.{◌+◌}
 use native.Mathlib.Omega.{arith}
 use Rattle.stepping.proofs.Limits.{radix_two, may_tabulate}
 use Rattle.stepping.proofs.Kept as kept

@@ -1,6 +1,5 @@
 use mathlib.Core.Path.{◌≡◌}
-use mathlib.Core.Bool.{true}
-use Prim.Native.Nat.{◌+◌, ◌-◌, ◌≤◌}
+use Prim.Native.Nat.{◌+◌, ◌≤◌}
 use native.Mathlib.Omega.{arith}
 use Rattle.stepping.proofs.Stepping.{may-sum_first, reached_start, reached_may, reached_next, steps_have_room}
 use Rattle.stepping.proofs.Counted.{counted_start, may-count, counted_next, may_multiply, additions_are}

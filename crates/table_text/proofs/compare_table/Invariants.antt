@@ -1,7 +1,6 @@
 -- The loop's invariant: the first k entries agree, with their lines from the front of s to the place reached.
 -- The measure is the entries left.
 use Prim.Native.Nat.{◌-◌}
-use Rattle.integers.specs.Flat.{at}
 use Rattle.selection.specs.Selection.{estimate_count}
 use Rattle.table_text.proofs.Comparing.{Agreed}
 use Rattle.table_text.proofs.compare_table.Given as goal

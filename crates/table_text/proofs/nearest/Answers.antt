@@ -10,8 +10,8 @@ returns c =
     let e = c.args.e in
     let h = c.if-e-lt0.half-bits in
     let half : Half e (to_z w64 h) =
-        elim c.if-e-lt0.branch [
-          then-e-lt0 w ↦ negative_half e c.requires h w.if-e-lt0.true w.half-is
-        | else-e-lt0 w ↦ positive_half e c.requires h w.if-e-lt0.false w.half-is
-        ] in
+    elim c.if-e-lt0.branch [
+      | then-e-lt0 w ↦ negative_half e c.requires h w.if-e-lt0.true w.half-is
+      | else-e-lt0 w ↦ positive_half e c.requires h w.if-e-lt0.false w.half-is
+    ] in
     quotient_is e c.requires _ half

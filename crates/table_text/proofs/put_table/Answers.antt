@@ -1,5 +1,4 @@
 use mathlib.Core.Path.{refl, ◌∙◌}
-use Prim.Native.Nat.{◌-◌}
 use native.Mathlib.Omega.{arith}
 use Rattle.table_text.proofs.Lines.{lines_start, line-room, lines_next, lines_all}
 use Rattle.table_text.proofs.Entries.{entry-made}

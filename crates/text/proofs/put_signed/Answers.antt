@@ -11,29 +11,29 @@ use Rattle.text.proofs.put_signed.Goals as goal
 pub put_byte-from-requires : goal.put_byte-from-requires
 put_byte-from-requires c =
     let size : c.magnitude-n.result ≡ nat_abs c.args.z =
-        rw (to_z-of_z {w = w64} c.ranges.z) at c.magnitude-n.ensures in
+    rw (to_z-of_z {w = w64} c.ranges.z) at c.magnitude-n.ensures in
     let negative : lt_z c.args.z (pos 0) ≡ true =
-        rw (to_z-of_z {w = w64} c.ranges.z) at c.if-z-lt0.true in
-        let s = c in
+    rw (to_z-of_z {w = w64} c.ranges.z) at c.if-z-lt0.true in
+    let s = c in
     sign_room s.args.out.now s.args.at s.args.z _ size negative s.requires
 
 pub put_decimal-requires : goal.put_decimal-requires
 put_decimal-requires c =
     let size : c.magnitude-n.result ≡ nat_abs c.args.z =
-        rw (to_z-of_z {w = w64} c.ranges.z) at c.magnitude-n.ensures in
+    rw (to_z-of_z {w = w64} c.ranges.z) at c.magnitude-n.ensures in
     let negative : lt_z c.args.z (pos 0) ≡ true =
-        rw (to_z-of_z {w = w64} c.ranges.z) at c.if-z-lt0.true in
-        let b = c in
+    rw (to_z-of_z {w = w64} c.ranges.z) at c.if-z-lt0.true in
+    let b = c in
     let s = b in
     past_sign_room s.args.out.now s.args.at s.args.z _ size negative s.requires b.put_byte-from.auto.out b.put_byte-from.ensures
 
 pub returns-then-z-lt0 : goal.returns-then-z-lt0
 returns-then-z-lt0 c =
     let size : c.magnitude-n.result ≡ nat_abs c.args.z =
-        rw (to_z-of_z {w = w64} c.ranges.z) at c.magnitude-n.ensures in
+    rw (to_z-of_z {w = w64} c.ranges.z) at c.magnitude-n.ensures in
     let negative : lt_z c.args.z (pos 0) ≡ true =
-        rw (to_z-of_z {w = w64} c.ranges.z) at c.if-z-lt0.true in
-        let d = c in
+    rw (to_z-of_z {w = w64} c.ranges.z) at c.if-z-lt0.true in
+    let d = c in
     let b = d in
     let s = b in
     put_negative s.args.out.now s.args.at s.args.z _ size negative b.put_byte-from.ensures d.put_decimal.ensures
@@ -41,18 +41,18 @@ returns-then-z-lt0 c =
 pub put_decimal-requires-2 : goal.put_decimal-requires-2
 put_decimal-requires-2 c =
     let size : c.magnitude-n.result ≡ nat_abs c.args.z =
-        rw (to_z-of_z {w = w64} c.ranges.z) at c.magnitude-n.ensures in
+    rw (to_z-of_z {w = w64} c.ranges.z) at c.magnitude-n.ensures in
     let nonnegative : lt_z c.args.z (pos 0) ≡ false =
-        rw (to_z-of_z {w = w64} c.ranges.z) at c.if-z-lt0.false in
-        let s = c in
+    rw (to_z-of_z {w = w64} c.ranges.z) at c.if-z-lt0.false in
+    let s = c in
     nonnegative_room s.args.out.now s.args.at s.args.z _ size nonnegative s.requires
 
 pub returns : goal.returns
 returns c =
     let size : c.magnitude-n.result ≡ nat_abs c.args.z =
-        rw (to_z-of_z {w = w64} c.ranges.z) at c.magnitude-n.ensures in
+    rw (to_z-of_z {w = w64} c.ranges.z) at c.magnitude-n.ensures in
     let nonnegative : lt_z c.args.z (pos 0) ≡ false =
-        rw (to_z-of_z {w = w64} c.ranges.z) at c.if-z-lt0.false in
-        let d = c in
+    rw (to_z-of_z {w = w64} c.ranges.z) at c.if-z-lt0.false in
+    let d = c in
     let s = d in
     put_nonnegative s.args.out.now s.args.at s.args.z _ size nonnegative d.put_decimal-2.ensures

@@ -1,6 +1,4 @@
-use Prim.Native.Nat.{◌-◌}
 use native.Mathlib.Omega.{arith}
-use lib.ListN.{length}
 use Rattle.calls.proofs.Parts.{turn_next, turn_counts, turn_last}
 use Rattle.calls.proofs.one_by_one.make_calls.Goals as goal
 

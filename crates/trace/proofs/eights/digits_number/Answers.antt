@@ -1,5 +1,5 @@
 use mathlib.Core.Path.{◌≡◌, ap, ◌∙◌}
-use Prim.Native.Nat.{◌+◌, ◌-◌, ◌<◌}
+use Prim.Native.Nat.{◌+◌, ◌<◌}
 use native.Mathlib.Omega.{arith}
 use Rattle.integers.specs.Flat.{at}
 use Rattle.bitfields.specs.Twos.{encode}
@@ -14,10 +14,10 @@ pub loop-x-preserved : goal.loop-x-preserved
 loop-x-preserved c =
     let next-bits : let t = c in
     t.loop-x.x < t.args.c → c.digit_bits.result ≡ encode 5 (at t.args.d.now (t.args.at + t.loop-x.x)) =
-        λ l. let t = c in
+    λ l. let t = c in
     let f = t.requires.2.each_fits t.loop-x.x l in
     c.digit_bits.ensures.1 (rw (fit-digit-kept _ f) f) ∙ ap (encode 5) (fit-digit-kept _ f) in
-        let t = c in
+    let t = c in
     let a = t.args in (
       omega arith,
       digits-number_lt t.loop-x.x t.loop-x.invariant.1 c.digit_bits.ensures.0,

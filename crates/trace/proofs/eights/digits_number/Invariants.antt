@@ -2,7 +2,6 @@
 -- those past the c-th they spell what the first c of them spell. Assumes nothing.
 use mathlib.Core.Path.{◌≡◌}
 use Prim.Native.Nat.{◌-◌, ◌*◌, ◌/◌, ◌^◌, ◌<◌, ◌≤◌, min}
-use Rattle.integers.specs.Flat.{at}
 use Rattle.bitfields.specs.Layout.{number}
 use Rattle.trace.specs.Inner.{digits_from, digit_fields}
 use Rattle.trace.proofs.eights.digits_number.Given as goal

@@ -1,4 +1,4 @@
-use Prim.Native.Nat.{◌+◌, ◌-◌, ◌*◌, ◌≤◌}
+use Prim.Native.Nat.{◌+◌, ◌*◌, ◌≤◌}
 use native.Mathlib.Omega.{arith}
 use Rattle.trace.proofs.Digits.{digit_array-none}
 use Rattle.trace.proofs.Steps.{place_next, place_room, digit_count, digits_read_turn, step_clear}
@@ -10,10 +10,10 @@ loop-j-init c = (omega arith, omega arith, digit_array-none _ _)
 pub read_step-requires : goal.read_step-requires
 read_step-requires c =
     let room : 5 * (c.args.n * c.loop-j.j) + 5 * c.args.n ≤ 5 * (c.args.n * c.args.k) =
-        place_room c.args.n c.args.k c.loop-j.j (omega arith) in
+    place_room c.args.n c.args.k c.loop-j.j (omega arith) in
     let small : c.args.n * c.loop-j.j ≤ 960 =
-        digit_count c.args.n c.loop-j.j c.requires.2 (omega arith) in
-        let t = c in
+    digit_count c.args.n c.loop-j.j c.requires.2 (omega arith) in
+    let t = c in
     let l = t.loop-j in
     (omega (arith, room), omega arith, omega arith, omega arith, omega (arith, small), step_clear l.d _ t.args.n l.j (omega arith) l.invariant.2)
 

@@ -12,7 +12,7 @@ size_refusal-c-requires c = (c.requires.1, rw c.read_field-k.ensures (field_lt _
 pub returns-then-c-gt0 : goal.returns-then-c-gt0
 returns-then-c-gt0 c =
     let refusing : 0 < c.size_refusal-c.result → no_record c.size_refusal-c.result ≡ part_answer c.args.h c.args.b.now =
-        λ z. part_refused c.args.h c.args.b.now c.read_field-k.result c.size_refusal-c.result c.read_field-k.ensures c.size_refusal-c.ensures z in
+    λ z. part_refused c.args.h c.args.b.now c.read_field-k.result c.size_refusal-c.result c.read_field-k.ensures c.size_refusal-c.ensures z in
     c.no_record.ensures ∙ refusing c.if-c-gt0.true
 
 pub returns-then-beyond : goal.returns-then-beyond

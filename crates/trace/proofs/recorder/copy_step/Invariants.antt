@@ -3,7 +3,6 @@
 use mathlib.Core.Path.{◌≡◌}
 use Prim.Native.Nat.{◌-◌, ◌≤◌}
 use lib.Seq.{sets}
-use Rattle.integers.specs.Flat.{at}
 use Rattle.trace.specs.Inner.{digits_from}
 use Rattle.trace.proofs.recorder.copy_step.Given as goal
 

@@ -1,4 +1,3 @@
-use Prim.Native.Nat.{◌-◌}
 use native.Mathlib.Omega.{arith}
 use Rattle.trace.proofs.Digits.{digit_array-none}
 use Rattle.trace.proofs.Steps.{trimmed_turn}

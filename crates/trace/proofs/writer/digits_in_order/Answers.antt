@@ -1,5 +1,5 @@
 use mathlib.Core.Path.{refl}
-use Prim.Native.Nat.{◌+◌, ◌-◌, ◌*◌, ◌≤◌}
+use Prim.Native.Nat.{◌+◌, ◌*◌, ◌≤◌}
 use native.Mathlib.Nat.{mul-suc}
 use native.Mathlib.Omega.{arith}
 use lib.IntN.{pos}
@@ -14,8 +14,8 @@ loop-j-init c = (omega arith, omega arith, refl, in_order-start c.args.n c.args.
 pub loop-j-preserved : goal.loop-j-preserved
 loop-j-preserved c =
     let room : c.args.n * c.loop-j.j + 16 ≤ 960 =
-        in_order-room c.args.n c.loop-j.j c.requires.1 (omega arith) in
-        let l = c.loop-j in
+    in_order-room c.args.n c.loop-j.j c.requires.1 (omega arith) in
+    let l = c.loop-j in
     let s = c in
     let a = s.args in (
       omega arith,

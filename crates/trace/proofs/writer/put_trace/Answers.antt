@@ -10,19 +10,19 @@ use Rattle.trace.proofs.writer.put_trace.Goals as goal
 pub overflow_mul-header_number : goal.overflow_mul-header_number
 overflow_mul-header_number c =
     let small : c.header_number.result < 2 ^ 24 =
-        head_small c.header_number.result c.requires.0 c.header_number.ensures in
+    head_small c.header_number.result c.requires.0 c.header_number.ensures in
     omega (arith, small)
 
 pub overflow_add-header_number : goal.overflow_add-header_number
 overflow_add-header_number c =
     let small : c.header_number.result < 2 ^ 24 =
-        head_small c.header_number.result c.requires.0 c.header_number.ensures in
+    head_small c.header_number.result c.requires.0 c.header_number.ensures in
     omega (arith, small)
 
 pub write_field-requires : goal.write_field-requires
 write_field-requires c =
     let small : c.header_number.result < 2 ^ 24 =
-        head_small c.header_number.result c.requires.0 c.header_number.ensures in
+    head_small c.header_number.result c.requires.0 c.header_number.ensures in
     (omega arith, omega arith, omega arith, omega (arith, small))
 
 pub returns : goal.returns

@@ -1,5 +1,5 @@
 use mathlib.Core.Path.{refl, ◌∙◌}
-use Prim.Native.Nat.{◌-◌, ◌*◌}
+use Prim.Native.Nat.{◌*◌}
 use native.Mathlib.Omega.{arith}
 use Rattle.trace.specs.Inner.{DigitsFit}
 use Rattle.trace.proofs.Groups.{digits-number-fits}
@@ -12,8 +12,8 @@ loop-i-init c = (omega arith, omega arith, list-start c.args.e.now c.args.out.no
 pub write_field-requires : goal.write_field-requires
 write_field-requires c =
     let next_fits : DigitsFit c.args.e.now (8 * c.loop-i.i) 8 =
-        fits-inside c.requires.2 (8 * c.loop-i.i) 8 (omega arith) in
-        let t = c in
+    fits-inside c.requires.2 (8 * c.loop-i.i) 8 (omega arith) in
+    let t = c in
     (omega (arith, t.loop-i.invariant.3), omega arith, omega arith, rw c.digits_number.ensures (digits-number-fits next_fits 8 (omega arith)))
 
 pub loop-i-preserved : goal.loop-i-preserved

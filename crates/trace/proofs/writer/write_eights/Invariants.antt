@@ -7,7 +7,7 @@ use Rattle.trace.specs.Inner.{digits_from, digit_fields, Appended}
 use Rattle.trace.proofs.writer.write_eights.Given as goal
 
 abbrev pub invariant-loop-i : goal.invariant-loop-i
-invariant-loop-i l =     (l.i ≤ l.g) × (l.q ≡ 3 + 5 * l.i) × Appended 30 (digit_fields (digits_from l.e 0 (8 * l.i))) l.initial.out l.out × (length l.out ≡ length l.initial.out)
+invariant-loop-i l = (l.i ≤ l.g) × (l.q ≡ 3 + 5 * l.i) × Appended 30 (digit_fields (digits_from l.e 0 (8 * l.i))) l.initial.out l.out × (length l.out ≡ length l.initial.out)
 
 abbrev pub decreases-loop-i : goal.decreases-loop-i
 decreases-loop-i l = l.g - l.i

@@ -16,17 +16,17 @@ returns-then-c-gt0 c =
 pub put_trace-requires : goal.put_trace-requires
 put_trace-requires c =
     let taken : ValidRecord c.args.t × (trace_length c.args.t.header c.args.t.k ≤ length c.args.out.now) =
-        let r = c in
+    let r = c in
     writer_takes r.args.t r.args.out.now r.writer_refusal-c.result r.writer_refusal-c.ensures c.if-c-gt0.false in
-        let v = taken in
+    let v = taken in
     (v.0.limits, record_steps_most v.0, steps-fit v.0, v.1)
 
 pub trace_length-requires : goal.trace_length-requires
 trace_length-requires c =
     let taken : ValidRecord c.args.t × (trace_length c.args.t.header c.args.t.k ≤ length c.args.out.now) =
-        let r = c in
+    let r = c in
     writer_takes r.args.t r.args.out.now r.writer_refusal-c.result r.writer_refusal-c.ensures c.if-c-gt0.false in
-        let v = taken in
+    let v = taken in
     (v.0.limits, record_steps_most v.0)
 
 pub returns : goal.returns

@@ -25,7 +25,7 @@ returns-then-too_many_steps c =
 pub too_many_steps-requires : goal.too_many_steps-requires
 too_many_steps-requires c =
     let limited : Limits c.args.h =
-        let r = c in
+    let r = c in
     let a = r.args in
     writer_header-limits a.h a.k a.d.now a.room r.trace_header_refusal-c.result r.trace_header_refusal-c.ensures c.if-c-gt0.false in
     limited
@@ -33,8 +33,8 @@ too_many_steps-requires c =
 pub returns-then-beyond : goal.returns-then-beyond
 returns-then-beyond c =
     let few : let a = c.args in too_many_steps a.h a.k ≡ false =
-        sym c.too_many_steps.ensures ∙ c.if-too_many_steps.false in
-        let b = c in
+    sym c.too_many_steps.ensures ∙ c.if-too_many_steps.false in
+    let b = c in
     let e = b in
     let r = e in
     let a = r.args in
@@ -44,20 +44,20 @@ returns-then-beyond c =
 pub trace_length-requires : goal.trace_length-requires
 trace_length-requires c =
     let limited : Limits c.args.h =
-        let r = c in
+    let r = c in
     let a = r.args in
     writer_header-limits a.h a.k a.d.now a.room r.trace_header_refusal-c.result r.trace_header_refusal-c.ensures c.if-c-gt0.false in
     let few : let a = c.args in too_many_steps a.h a.k ≡ false =
-        sym c.too_many_steps.ensures ∙ c.if-too_many_steps.false in
+    sym c.too_many_steps.ensures ∙ c.if-too_many_steps.false in
     let at_most : c.args.k ≤ 60 =
-        let a = c.args in few-steps a.h a.k few in
+    let a = c.args in few-steps a.h a.k few in
     let e = c in (limited, at_most)
 
 pub returns-then-room-trace_length : goal.returns-then-room-trace_length
 returns-then-room-trace_length c =
     let few : let a = c.args in too_many_steps a.h a.k ≡ false =
-        sym c.too_many_steps.ensures ∙ c.if-too_many_steps.false in
-        let n = c in
+    sym c.too_many_steps.ensures ∙ c.if-too_many_steps.false in
+    let n = c in
     let b = n in
     let e = b in
     let r = e in
@@ -68,8 +68,8 @@ returns-then-room-trace_length c =
 pub returns : goal.returns
 returns c =
     let few : let a = c.args in too_many_steps a.h a.k ≡ false =
-        sym c.too_many_steps.ensures ∙ c.if-too_many_steps.false in
-        let n = c in
+    sym c.too_many_steps.ensures ∙ c.if-too_many_steps.false in
+    let n = c in
     let b = n in
     let e = b in
     let r = e in
