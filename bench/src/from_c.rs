@@ -31,7 +31,7 @@ pub fn run() -> Result<(), String> {
             build.args(["-Wall", "-Wextra", "-pedantic", "-Werror"]);
             build.arg("-I").arg(root.join("crates/emethod_c"));
             build.args(before).arg(root.join(program)).args(after);
-            build.arg(root.join("target/staticlib/libemethod_c.a"));
+            build.arg(root.join("crates/emethod_c/out/libemethod_c.a"));
             let done = build.arg("-o").arg(&built).status();
             if !done
                 .map_err(|error| format!("{compiler}: {error}"))?

@@ -120,7 +120,7 @@ bytes_fit {s} h = record { byte = each_lt 8 s h }
 pub fit-bytes : {s : List ℕ} → Bytes s → Fit (each 8 s)
 fit-bytes {s} h = fit-each 8 s (λ i l. h.byte i)
 
--- what the borrow checker knows of a byte slice (`c .. .shared-slice-known .given` in a proof)
+-- what the borrow checker knows of a byte slice (`c.slice_known-1.given` in a proof)
 pub slice_bytes : (s : List ℕ) → ((i : ℕ) → Fits w8 (get_or s i 0)) → Bytes s
 slice_bytes s h = record { byte = λ i. (h i).fits }
 

@@ -3,7 +3,7 @@
 // exit status is 1.
 //
 // The longest frame has 1,431 bytes and the longest text fewer than 32,768, so there is room enough: 4,096 bytes
-// are kept of the input, of which any bytes more change nothing (the law cut-text of the printout), and 65,536
+// are kept of the input, of which any bytes more change nothing (the law cut_text of the printout), and 65,536
 // are lent for the text.
 #![tactic(auto)]
 

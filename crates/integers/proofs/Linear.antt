@@ -3,7 +3,7 @@
 --
 --   linear : (z g : ℤ) → nat_abs z ≤ 8 → nat_abs g ≤ 60 → (pos 16 *ℤ (z +ℤ g)) ≤ℤ pos 1088
 --   linear z g h k =
---    by_le (z ∷ g ∷ []) (search lins depth 9) (search lins depth 9) (omega (arith, abs-parts z, abs-parts g))
+--    by_le (z ∷ g ∷ []) (search lins depth 9) (search lins depth 9) (omega (arith, abs_parts z, abs_parts g))
 --
 -- A hypothesis of ℤ goes into `omega`'s list by `use_le`, `use_lt` or `use_eq` with the same unknowns, a
 -- bound on an absolute value by `abs_parts`. Both sides of ≤ℤ and <ℤ stand in parentheses: these bind tighter

@@ -3,9 +3,9 @@
 -- numeral that bounds it, and a test that computes, and `search machs` finds it.
 --
 --   a need of r * (z + g * d) at i64, where `Within` bounds on r, z, g and d are in scope:
---                      machine-fits (search machs depth 12) tt
---   a result:          machine-eq (search machs depth 12) tt (the clean equation)
---   a branch's test:   machine-test c.if1.taken (search machs depth 12) tt
+--                      machine_fits (search machs depth 12) tt
+--   a result:          machine_eq (search machs depth 12) tt (the clean equation)
+--   a branch's test:   machine_test c.if-a-b.true (search machs depth 12) tt
 --
 -- A bound has to be a numeral, or `tt` does not compute: weaken a bound with a variable in it first. What a
 -- call gave, a loop's variable or an element of a list goes in by a `let` with `known` or `bounded`. Every

@@ -35,11 +35,11 @@ pub record ScaleLimits (h : Header) (s : ℕ) : Type 0 where
 abbrev pub scale_factor : Header → ℕ → ℕ
 scale_factor h s = radix h.code ^ s
 
--- the residuals inside a state are in units of 1 / inner-unit, which is 2^f × r^s
+-- the residuals inside a state are in units of 1 / inner_unit, which is 2^f × r^s
 abbrev pub inner_unit : Header → ℕ → ℕ
 inner_unit h s = unit h * scale_factor h s
 
--- the residual bound: after every step |z| is at most bound-over / bound-under, which is 17/32: half a unit,
+-- the residual bound: after every step |z| is at most bound_over / bound_under, which is 17/32: half a unit,
 -- and 1/32 for what the estimate leaves out of w
 abbrev pub bound_over : ℕ
 bound_over = 17

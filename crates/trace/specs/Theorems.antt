@@ -1,6 +1,7 @@
 -- What is promised of traces and records. The contracts say that the trace reader, the record of a state and
 -- the trace writer answer and leave what `Trace` defines, so each statement here is one about those calls.
--- `proofs/Theorems.antt` and `proofs/Valid.antt` prove them, each under its name in small letters.
+-- `proofs/Theorems.antt` and `proofs/Valid.antt` prove them, each under its name in small letters,
+-- with a dash where two names meet.
 use mathlib.Core.{Path.◌≡◌, List.List, Logic.◌↔◌}
 use Rattle.std.specs.Prelude.{ℕ, ◌<◌, ◌≤◌, length, take, drop}
 use Rattle.bitfields.specs.Layout.{Bytes, write}

@@ -4,7 +4,6 @@ use Rattle.bitfields.proofs.decode.Goals as goal
 
 pub returns : goal.returns
 returns c =
-    let s = c in
-    difference_read s.args.w s.args.x s.requires.0 s.requires.1 s.requires.2 c.to_signed.result c.to_signed-2.result
+    difference_read c.args.w c.args.x c.requires.0 c.requires.1 c.requires.2 c.to_signed.result c.to_signed-2.result
     (rw (c.pow2-half.ensures, c.pow2.ensures) at c.to_signed.ensures)
     (rw c.pow2-half.ensures at c.to_signed-2.ensures)

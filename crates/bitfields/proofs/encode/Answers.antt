@@ -5,13 +5,11 @@ use Rattle.bitfields.proofs.encode.Goals as goal
 
 pub returns-then-z-lt0 : goal.returns-then-z-lt0
 returns-then-z-lt0 c =
-    let s = c in
-    let e = to_z-of_z s.ranges.z in
+    let e = to_z-of_z c.ranges.z in
     rw (c.pow2.ensures, c.bits_beside_sign.ensures, e)
-    (encode_negative s.args.w s.args.z (rw e at c.if-z-lt0.true))
+    (encode_negative c.args.w c.args.z (rw e at c.if-z-lt0.true))
 
 pub returns-else-z-lt0 : goal.returns-else-z-lt0
 returns-else-z-lt0 c =
-    let s = c in
-    let e = to_z-of_z s.ranges.z in
-    rw (c.bits_beside_sign-else-z-lt0.ensures, e) (encode_not_negative s.args.w s.args.z (rw e at c.if-z-lt0.false))
+    let e = to_z-of_z c.ranges.z in
+    rw (c.bits_beside_sign-else-z-lt0.ensures, e) (encode_not_negative c.args.w c.args.z (rw e at c.if-z-lt0.false))

@@ -5,9 +5,8 @@ use Rattle.bitfields.proofs.fill_is_zero.Goals as goal
 
 pub returns : goal.returns
 returns c =
-    let s = c in
     rw (
       c.pow2.ensures,
       c.from_byte.ensures,
-      last-fill s.args.b (slice_bytes s.args.s.now c.shared_slice_known-2-1.given) s.requires.0 s.requires.1,
+      last-fill c.args.b (slice_bytes c.args.s.now c.shared_slice_known-2-1.given) c.requires.0 c.requires.1,
     )

@@ -14,14 +14,12 @@ overflow_mul-x c = omega (arith, read_fits c.loop-j.j c.loop-j.invariant.2 (omeg
 
 pub overflow_add-x : goal.overflow_add-x
 overflow_add-x c =
-    let b = c in
-    omega (arith, read_fits b.loop-j.j b.loop-j.invariant.2 (omega arith), c.shared_slice_known-in-loop-j-1.given (b.args.at + b.loop-j.j))
+    omega (arith, read_fits c.loop-j.j c.loop-j.invariant.2 (omega arith), c.shared_slice_known-in-loop-j-1.given (c.args.at + c.loop-j.j))
 
 pub loop-j-preserved : goal.loop-j-preserved
 loop-j-preserved c =
-    let b = c in
-    let a = b.args in (
+    let a = c.args in (
       omega arith,
-      rw c.from_byte.ensures (read_bytes_turn a.s.now a.at b.loop-j.j b.loop-j.x (omega arith) b.loop-j.invariant.1),
-      rw c.from_byte.ensures (read_bytes_turn_lt b.loop-j.j b.loop-j.invariant.2 (omega (arith, c.shared_slice_known-in-loop-j-1.given (a.at + b.loop-j.j)))),
+      rw c.from_byte.ensures (read_bytes_turn a.s.now a.at c.loop-j.j c.loop-j.x (omega arith) c.loop-j.invariant.1),
+      rw c.from_byte.ensures (read_bytes_turn_lt c.loop-j.j c.loop-j.invariant.2 (omega (arith, c.shared_slice_known-in-loop-j-1.given (a.at + c.loop-j.j)))),
     )

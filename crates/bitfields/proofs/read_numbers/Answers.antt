@@ -17,13 +17,12 @@ decode-requires c = rw c.read_field.ensures (omega arith, omega arith, field_lt 
 
 pub loop-i-preserved : goal.loop-i-preserved
 loop-i-preserved c =
-    let b = c in
-    let a = b.args in
-    let e : b.loop-i.p ≡ a.at + a.w * b.loop-i.i = b.loop-i.invariant.1 in (
+    let a = c.args in
+    let e : c.loop-i.p ≡ a.at + a.w * c.loop-i.i = c.loop-i.invariant.1 in (
       omega arith,
-      ap (λ (p : ℕ). p + a.w) e ∙ step_eq a.at a.w b.loop-i.i,
+      ap (λ (p : ℕ). p + a.w) e ∙ step_eq a.at a.w c.loop-i.i,
       rw (i64_kept _ c.decode.type_inv)
-          (read_numbers_turn a.out.now b.loop-i.out a.s.now a.at a.w b.loop-i.i c.decode.result (omega arith)
-          b.loop-i.invariant.2 (c.decode.ensures ∙ rw (c.read_field.ensures, e))),
-      simp length-set b.loop-i.invariant.3,
+          (read_numbers_turn a.out.now c.loop-i.out a.s.now a.at a.w c.loop-i.i c.decode.result (omega arith)
+          c.loop-i.invariant.2 (c.decode.ensures ∙ rw (c.read_field.ensures, e))),
+      simp length-set c.loop-i.invariant.3,
     )

@@ -9,33 +9,28 @@ pub overflow_mul-x : goal.overflow_mul-x
 overflow_mul-x c =
     let bytes : Bytes c.args.s.now =
     slice_bytes _ c.slice_known-1.given in
-    let b = c in
-    let a = b.args in
-    rw (c.pow2.ensures, c.from_byte.ensures) (omega (arith, joined_fits a.at a.w bytes b.requires))
+    let a = c.args in
+    rw (c.pow2.ensures, c.from_byte.ensures) (omega (arith, joined_fits a.at a.w bytes c.requires))
 
 pub overflow_add-x : goal.overflow_add-x
 overflow_add-x c =
     let bytes : Bytes c.args.s.now =
     slice_bytes _ c.slice_known-1.given in
-    let b = c in
-    let a = b.args in
-    rw (c.pow2.ensures, c.from_byte.ensures) (omega (arith, joined_fits a.at a.w bytes b.requires))
+    let a = c.args in
+    rw (c.pow2.ensures, c.from_byte.ensures) (omega (arith, joined_fits a.at a.w bytes c.requires))
 
 pub overflow_mul-x-2 : goal.overflow_mul-x-2
 overflow_mul-x-2 c =
     let bytes : Bytes c.args.s.now =
     slice_bytes _ c.slice_known-1.given in
-    let b = c in
-    let a = b.args in
+    let a = c.args in
     rw (c.pow2-2.ensures, c.pow2.ensures, c.from_byte.ensures)
-    (omega (arith, filled-fits a.at a.w bytes b.requires))
+    (omega (arith, filled-fits a.at a.w bytes c.requires))
 
 pub returns : goal.returns
 returns c =
     let bytes : Bytes c.args.s.now =
     slice_bytes _ c.slice_known-1.given in
-    let d = c in
-    let b = d in
-    let a = b.args in
-    rw (c.write_window.ensures, d.pow2-2.ensures, d.pow2.ensures, d.from_byte.ensures)
-    (put-field a.at a.w bytes b.requires)
+    let a = c.args in
+    rw (c.write_window.ensures, c.pow2-2.ensures, c.pow2.ensures, c.from_byte.ensures)
+    (put-field a.at a.w bytes c.requires)

@@ -27,8 +27,7 @@ write_field-requires c =
     i64_kept next (in_word c.requires.3 next_fits) in
     let room : c.args.w * c.loop-i.i + c.args.w ≤ c.args.w * length c.args.nums.now =
     step_le c.args.w c.loop-i.i (length c.args.nums.now) (omega arith) in
-    let t = c in
-    (omega (arith, room), omega arith, omega arith, rw (c.encode.ensures, next-plain) (encode_lt t.requires.2 next_fits))
+    (omega (arith, room), omega arith, omega arith, rw (c.encode.ensures, next-plain) (encode_lt c.requires.2 next_fits))
 
 pub loop-i-preserved : goal.loop-i-preserved
 loop-i-preserved c =
@@ -38,16 +37,14 @@ loop-i-preserved c =
     c.requires.5.each_fits c.loop-i.i (omega arith) in
     let next-plain : to_z w64 (of_z w64 next) ≡ next =
     i64_kept next (in_word c.requires.3 next_fits) in
-    let t = c in
-    let l = t.loop-i in
-    let s = t in
-    let a = s.args in (
+    let l = c.loop-i in
+    let a = c.args in (
       omega arith,
       ap (λ (p : ℕ). p + a.w) l.invariant.1 ∙ step_eq a.at a.w l.i,
       c.write_field.ensures
           ∙ write-numbers_turn a.dst.now l.dst a.at a.w a.nums.now l.i l.p c.encode.result
           l.invariant.2 l.invariant.1 (c.encode.ensures ∙ rw next-plain)
-          (slice_bytes a.dst.now t.slice_known-1.given) s.requires.2 s.requires.5 (omega arith),
+          (slice_bytes a.dst.now c.slice_known-1.given) c.requires.2 c.requires.5 (omega arith),
       c.write_field.auto.s ∙ l.invariant.3,
     )
 

@@ -9,71 +9,52 @@ use Rattle.calls.proofs.evaluate.Goals as goal
 
 pub returns-then-l-gt0 : goal.returns-then-l-gt0
 returns-then-l-gt0 c =
-    let l = c in
-    let a = l.args in
-    promise-refused a.frame.now a.budgets.now a.out.now l.load-l.result l.load-l.ensures c.if-l-gt0.true
+    let a = c.args in
+    promise-refused a.frame.now a.budgets.now a.out.now c.load-l.result c.load-l.ensures c.if-l-gt0.true
 
 pub last_step-requires : goal.last_step-requires
 last_step-requires c =
-    let e = c in
-    let l = e in
-    let a = l.args in
-    let b = job_limits a.frame.now a.budgets.now a.out.now l.load-l.result l.load-l.ensures e.if-l-gt0.false in
+    let a = c.args in
+    let b = job_limits a.frame.now a.budgets.now a.out.now c.load-l.result c.load-l.ensures c.if-l-gt0.false in
     (steps-small _ b.0, scale_small _ _ b.1)
 
 pub steps_allowed-made-requires : goal.steps_allowed-made-requires
 steps_allowed-made-requires c =
-    let e = c in
-    let l = e in
-    let a = l.args in
-    rw c.last_step.ensures (job_last-small a.frame.now a.budgets.now a.out.now l.load-l.result l.load-l.ensures e.if-l-gt0.false)
+    let a = c.args in
+    rw c.last_step.ensures (job_last-small a.frame.now a.budgets.now a.out.now c.load-l.result c.load-l.ensures c.if-l-gt0.false)
 
 pub make_steps-additions-requires : goal.make_steps-additions-requires
 make_steps-additions-requires c =
     let allowed : let l = c in
     c.steps_allowed-made.result ≡ smaller (state_last l.load-l.result.state) (budgets (advances l.args.budgets.now)) =
     rw c.last_step.ensures at c.steps_allowed-made.ensures in
-    let m = c in
-    let e = m in
-    let l = e in
+    let l = c in
     let a = l.args in
-    steppable a.frame.now a.budgets.now a.out.now l.load-l.result l.load-l.ensures e.if-l-gt0.false m.steps_allowed-made.result allowed
+    steppable a.frame.now a.budgets.now a.out.now l.load-l.result l.load-l.ensures c.if-l-gt0.false c.steps_allowed-made.result allowed
 
 pub returns-then-out-h : goal.returns-then-out-h
 returns-then-out-h c =
     let allowed : let l = c in
     c.steps_allowed-made.result ≡ smaller (state_last l.load-l.result.state) (budgets (advances l.args.budgets.now)) =
     rw c.last_step.ensures at c.steps_allowed-made.ensures in
-    let k = c in
-    let m = k in
-    let e = m in
-    let l = e in
+    let l = c in
     let a = l.args in
-    promise_short a.frame.now a.budgets.now a.out.now l.load-l.result l.load-l.ensures e.if-l-gt0.false m.steps_allowed-made.result allowed _ k.make_steps-additions.ensures.additions c.if-out-h.true
+    promise_short a.frame.now a.budgets.now a.out.now l.load-l.result l.load-l.ensures c.if-l-gt0.false c.steps_allowed-made.result allowed _ c.make_steps-additions.ensures.additions c.if-out-h.true
 
 pub put_readings-requires : goal.put_readings-requires
 put_readings-requires c =
     let allowed : let l = c in
     c.steps_allowed-made.result ≡ smaller (state_last l.load-l.result.state) (budgets (advances l.args.budgets.now)) =
     rw c.last_step.ensures at c.steps_allowed-made.ensures in
-    let o = c in
-    let k = o in
-    let m = k in
-    let e = m in
-    let l = e in
+    let l = c in
     let a = l.args in
-    (rows_readable a.frame.now a.budgets.now a.out.now l.load-l.result l.load-l.ensures e.if-l-gt0.false m.steps_allowed-made.result allowed _ k.make_steps-additions.ensures.digits, o.if-out-h.false)
+    (rows_readable a.frame.now a.budgets.now a.out.now l.load-l.result l.load-l.ensures c.if-l-gt0.false c.steps_allowed-made.result allowed _ c.make_steps-additions.ensures.digits, c.if-out-h.false)
 
 pub returns : goal.returns
 returns c =
     let allowed : let l = c in
     c.steps_allowed-made.result ≡ smaller (state_last l.load-l.result.state) (budgets (advances l.args.budgets.now)) =
     rw c.last_step.ensures at c.steps_allowed-made.ensures in
-    let q = c in
-    let o = q in
-    let k = o in
-    let m = k in
-    let e = m in
-    let l = e in
+    let l = c in
     let a = l.args in
-    promise_done a.frame.now a.budgets.now a.out.now l.load-l.result l.load-l.ensures e.if-l-gt0.false m.steps_allowed-made.result allowed _ k.make_steps-additions.ensures.digits _ k.make_steps-additions.ensures.additions _ o.if-out-h.false q.put_readings.ensures
+    promise_done a.frame.now a.budgets.now a.out.now l.load-l.result l.load-l.ensures c.if-l-gt0.false c.steps_allowed-made.result allowed _ c.make_steps-additions.ensures.digits _ c.make_steps-additions.ensures.additions _ c.if-out-h.false c.put_readings.ensures

@@ -7,10 +7,9 @@ loop-i-init c = (omega arith, chosen_none)
 
 pub choose_row-requires : goal.choose_row-requires
 choose_row-requires c =
-    let i = c in
-    let l = i.loop-i in
-    let p = i.requires in
-    let t = i.loop-i-test.true in
+    let l = c.loop-i in
+    let p = c.requires in
+    let t = c.loop-i-test.true in
     (p.0, omega (arith, t, p.4.order), p.1, p.2, p.3, may_choose_next l.invariant.1 (p.4.rows l.i t))
 
 pub loop-i-preserved : goal.loop-i-preserved

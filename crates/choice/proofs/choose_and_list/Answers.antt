@@ -13,36 +13,28 @@ loop-i-init c = (omega arith, chosen_none, listed_none _ _ c.requires.4, countin
 
 pub choose_row-d-requires : goal.choose_row-d-requires
 choose_row-d-requires c =
-    let i = c in
-    let l = i.loop-i in
-    let p = i.requires in
-    let t = i.loop-i-test.true in
+    let l = c.loop-i in
+    let p = c.requires in
+    let t = c.loop-i-test.true in
     (p.0, omega (arith, t, p.5.order), p.1, p.2, p.3, may_choose_next l.invariant.1 (p.5.rows l.i t))
 
 pub column_place-requires : goal.column_place-requires
 column_place-requires c =
-    let b = c in
-    let i = b in
-    let l = i.loop-i in
-    let s = i in
-    let t = i.loop-i-test.true in
-    (digit_sign _ _ (digit-next l.invariant.1 b.choose_row-d.ensures.digit) (digit_most (pow_pos s.args.f) (s.requires.5.rows l.i t)), omega (arith, t, s.requires.5.order))
+    let l = c.loop-i in
+    let t = c.loop-i-test.true in
+    (digit_sign _ _ (digit-next l.invariant.1 c.choose_row-d.ensures.digit) (digit_most (pow_pos c.args.f) (c.requires.5.rows l.i t)), omega (arith, t, c.requires.5.order))
 
 pub loop-i-preserved : goal.loop-i-preserved
 loop-i-preserved c =
     let digits : ℕ → ℤ =
     digit_from 2 c.args.q 1 (2 ^ c.args.f) c.args.z.now c.args.s.now in
-    let a = c in
-    let b = a in
-    let i = b in
-    let l = i.loop-i in
-    let s = i in
-    let t = i.loop-i-test.true in
-    let e = b.choose_row-d.ensures in
+    let l = c.loop-i in
+    let t = c.loop-i-test.true in
+    let e = c.choose_row-d.ensures in
     let d = digit-next l.invariant.1 e.digit in
-    let m : l.i < 16 = omega (arith, t, s.requires.5.order) in (
+    let m : l.i < 16 = omega (arith, t, c.requires.5.order) in (
       omega (arith, t),
       chosen_next l.invariant.1 e.newest e.stored e.residual,
-      listed_next m l.invariant.2 _ d (digit_most (pow_pos s.args.f) (s.requires.5.rows l.i t)) _ _ c.column_place.ensures c.counted-count.ensures,
-      digit-counted digits l.invariant.3 b.choose_row-d.type_inv d a.added.ensures m,
+      listed_next m l.invariant.2 _ d (digit_most (pow_pos c.args.f) (c.requires.5.rows l.i t)) _ _ c.column_place.ensures c.counted-count.ensures,
+      digit-counted digits l.invariant.3 c.choose_row-d.type_inv d c.added.ensures m,
     )

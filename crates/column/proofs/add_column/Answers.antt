@@ -14,15 +14,12 @@ sum_after-requires c =
     let so_far : let a = c.args in
     c.loop-i.s ≡ stores a.s.now (λ t. a.lo + t) (column_added a.g.now a.j a.lo a.d a.s.now) (c.loop-i.i - a.lo) =
     rw (digit-kept c.args.d c.requires.digit) at c.loop-i.invariant.2 in
-    let i = c in
-    may-add-row i.requires i.loop-i.s i.loop-i.i i.loop-i.invariant.0 i.loop-i-test.true so_far
+    may-add-row c.requires c.loop-i.s c.loop-i.i c.loop-i.invariant.0 c.loop-i-test.true so_far
 
 pub loop-i-preserved : goal.loop-i-preserved
 loop-i-preserved c =
     let so_far : let a = c.args in
     c.loop-i.s ≡ stores a.s.now (λ t. a.lo + t) (column_added a.g.now a.j a.lo a.d a.s.now) (c.loop-i.i - a.lo) =
     rw (digit-kept c.args.d c.requires.digit) at c.loop-i.invariant.2 in
-    let i = c in
-    let d = i in
-    let r = row-added d.requires i.loop-i.s i.loop-i.i i.loop-i.invariant.0 i.loop-i-test.true so_far _ c.sum_after.ensures in
-    (omega (arith, i.loop-i.invariant.0), omega (arith, i.loop-i-test.true, i.loop-i.invariant.0), rw (digit-kept d.args.d d.requires.digit) r)
+    let r = row-added c.requires c.loop-i.s c.loop-i.i c.loop-i.invariant.0 c.loop-i-test.true so_far _ c.sum_after.ensures in
+    (omega (arith, c.loop-i.invariant.0), omega (arith, c.loop-i-test.true, c.loop-i.invariant.0), rw (digit-kept c.args.d c.requires.digit) r)

@@ -10,16 +10,12 @@ loop-j-init c = (omega arith, sym (total-zero _))
 
 pub overflow_add-a : goal.overflow_add-a
 overflow_add-a c =
-    let i = c in
-    let s = i in
-    let l = i.loop-j in
-    let d = digits_of s.args.digits.now s.args.k in
+    let l = c.loop-j in
+    let d = digits_of c.args.digits.now c.args.k in
     omega
-    (arith, product_small s.args.e.now s.args.t.now d s.requires.2 l.j i.loop-j-test.true c.added_after.ensures, l.invariant.1, additions-small s.args.e.now s.args.t.now d s.requires.2 s.requires.1 l.j l.invariant.0)
+    (arith, product_small c.args.e.now c.args.t.now d c.requires.2 l.j c.loop-j-test.true c.added_after.ensures, l.invariant.1, additions-small c.args.e.now c.args.t.now d c.requires.2 c.requires.1 l.j l.invariant.0)
 
 pub loop-j-preserved : goal.loop-j-preserved
 loop-j-preserved c =
-    let i = c in
-    let s = i in
-    let l = i.loop-j in
-    (omega arith, additions-next s.args.e.now s.args.t.now (digits_of s.args.digits.now s.args.k) s.requires.2 l.j l.invariant.1 c.added_after.ensures)
+    let l = c.loop-j in
+    (omega arith, additions-next c.args.e.now c.args.t.now (digits_of c.args.digits.now c.args.k) c.requires.2 l.j l.invariant.1 c.added_after.ensures)

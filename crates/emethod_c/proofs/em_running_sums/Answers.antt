@@ -4,18 +4,13 @@ use Rattle.emethod_c.proofs.em_running_sums.Goals as goal
 
 pub returns-then-l-gt0 : goal.returns-then-l-gt0
 returns-then-l-gt0 c =
-    let l = c in
-    let a = l.args in
-    let both = job_sums-refused a.frame.now l.load-l.result l.load-l.ensures c.if-l-gt0.true a.budget c.answer.result a.words.now c.answer.ensures in
+    let a = c.args in
+    let both = job_sums-refused a.frame.now c.load-l.result c.load-l.ensures c.if-l-gt0.true a.budget c.answer.result a.words.now c.answer.ensures in
     record { value = both.0; words_after = both.1 }
 
 pub returns : goal.returns
 returns c =
-    let w = c in
-    let v = w in
-    let e = v in
-    let l = e in
-    let a = l.args in
-    let both = job_sums-accepted a.frame.now l.load-l.result l.load-l.ensures e.if-l-gt0.false a.budget v.advance-a.result v.advance-a.ensures w.running_sums-w.result
-    c.answer-2.result a.words.now _ w.running_sums-w.ensures.answer w.running_sums-w.ensures.list c.answer-2.ensures in
+    let a = c.args in
+    let both = job_sums-accepted a.frame.now c.load-l.result c.load-l.ensures c.if-l-gt0.false a.budget c.advance-a.result c.advance-a.ensures c.running_sums-w.result
+    c.answer-2.result a.words.now _ c.running_sums-w.ensures.answer c.running_sums-w.ensures.list c.answer-2.ensures in
     record { value = both.0; words_after = both.1 }

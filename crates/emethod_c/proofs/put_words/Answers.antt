@@ -12,18 +12,15 @@ loop-j-init c = (omega arith, refl, omega arith, rw (digit_list-none _ _))
 
 pub loop-j-preserved : goal.loop-j-preserved
 loop-j-preserved c =
-    let t = c in
-    let l = t.loop-j in
-    let b = t in (
-      omega (arith, t.loop-j-test.true),
-      same_sets l.words _ l.to (digits_from b.args.d.now (16 * l.j) b.args.h.n) c.put_step_words.ensures ∙ l.invariant.1,
-      omega (arith, l.invariant.2, mul-suc b.args.h.n l.j),
-      words_turn b.args.d.now _ l.words _ b.args.h.n l.j l.to b.requires.0.order_least l.invariant.2 l.invariant.3 c.put_step_words.ensures,
+    let l = c.loop-j in (
+      omega (arith, c.loop-j-test.true),
+      same_sets l.words _ l.to (digits_from c.args.d.now (16 * l.j) c.args.h.n) c.put_step_words.ensures ∙ l.invariant.1,
+      omega (arith, l.invariant.2, mul-suc c.args.h.n l.j),
+      words_turn c.args.d.now _ l.words _ c.args.h.n l.j l.to c.requires.0.order_least l.invariant.2 l.invariant.3 c.put_step_words.ensures,
     )
 
 pub returns : goal.returns
 returns c =
     let l = c.loop-j in
-    let b = c in
-    words_all b.args.h b.args.k b.args.d.now b.args.words.now _ l.words l.j (omega arith) b.requires.2
+    words_all c.args.h c.args.k c.args.d.now c.args.words.now _ l.words l.j (omega arith) c.requires.2
     c.put_header_words.ensures l.invariant.3

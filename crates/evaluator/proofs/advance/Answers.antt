@@ -17,11 +17,8 @@ advance_refusal-refusal-requires c = unrefused_limits c.args.s _ c.check-bad.ens
 
 pub last_step-requires : goal.last_step-requires
 last_step-requires c =
-    let accepted : let s = c.args.s in (s.busy ≡ true) × PassesLimits s × (s.k < state_last s) =
-    let a = c.args in
-    advance_takes a.s a.budget _ _ c.check-bad.ensures c.advance_refusal-refusal.ensures c.if-refusal-eq0.true in
     let s = c.args.s in
-    let p = accepted.1 in
+    let p : PassesLimits s = (advance_takes s c.args.budget _ _ c.check-bad.ensures c.advance_refusal-refusal.ensures c.if-refusal-eq0.true).1 in
     (steps-small s.header p.limits, scale_small s.header s.scale p.scaled)
 
 pub make_steps-additions-requires : goal.make_steps-additions-requires
@@ -47,16 +44,10 @@ make_steps-additions-requires c =
 
 pub returns-then-refusal-eq0 : goal.returns-then-refusal-eq0
 returns-then-refusal-eq0 c =
-    let accepted : let s = c.args.s in (s.busy ≡ true) × PassesLimits s × (s.k < state_last s) =
     let a = c.args in
-    advance_takes a.s a.budget _ _ c.check-bad.ensures c.advance_refusal-refusal.ensures c.if-refusal-eq0.true in
-    let l = c in
-    let t = l in
-    let r = t in
-    let a = r.args in
-    let e = busy_whole a.s accepted.0 in
+    let e = busy_whole a.s (advance_takes a.s a.budget _ _ c.check-bad.ensures c.advance_refusal-refusal.ensures c.if-refusal-eq0.true).0 in
     let m = rw e at c.make_steps-additions.ensures in
-    advance_makes a.s a.budget _ _ r.check-bad.ensures r.advance_refusal-refusal.ensures _ _ _ _ t.if-refusal-eq0.true l.last_step.ensures l.smaller-made.ensures m.additions
+    advance_makes a.s a.budget _ _ c.check-bad.ensures c.advance_refusal-refusal.ensures _ _ _ _ c.if-refusal-eq0.true c.last_step.ensures c.smaller-made.ensures m.additions
     (steps_whole a.s _ _ _ m.residuals m.digits)
 
 pub returns-else-refusal-eq0 : goal.returns-else-refusal-eq0

@@ -51,15 +51,11 @@ returns-then-w-gt0 c =
     let unpacked : let u = c in
     Unpacked u.args.s.now u.unpack-a.result u.unpack-a.new.v c.count-n.result =
     unpack_gives _ _ c.unpack-a.ensures c.if-a-gt0.false c.count-n.ensures in
-    let d = c in
-    let g = d in
-    load_refuses unpacked g.place_matrix.ensures g.right_sides-z.ensures d.weigh-w.ensures c.if-w-gt0.true c.refused-then-w-gt0.ensures
+    load_refuses unpacked c.place_matrix.ensures c.right_sides-z.ensures c.weigh-w.ensures c.if-w-gt0.true c.refused-then-w-gt0.ensures
 
 pub returns : goal.returns
 returns c =
     let unpacked : let u = c in
     Unpacked u.args.s.now u.unpack-a.result u.unpack-a.new.v c.count-n.result =
     unpack_gives _ _ c.unpack-a.ensures c.if-a-gt0.false c.count-n.ensures in
-    let d = c in
-    let g = d in
-    load_makes unpacked g.place_matrix.ensures g.right_sides-z.ensures d.weigh-w.ensures c.if-w-gt0.false
+    load_makes unpacked c.place_matrix.ensures c.right_sides-z.ensures c.weigh-w.ensures c.if-w-gt0.false

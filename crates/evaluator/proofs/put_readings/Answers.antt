@@ -10,36 +10,30 @@ use Rattle.evaluator.proofs.put_readings.Goals as goal
 
 pub two_readings-two-requires : goal.two_readings-two-requires
 two_readings-two-requires c =
-    let r = c in
-    let p = r.requires.0 in
-    (may_read p _ _ (omega (arith, c.loop-i-test.true)) r.radix_by_shift-r.ensures, may_read p _ _ c.loop-i-test.true r.radix_by_shift-r.ensures)
+    let p = c.requires.0 in
+    (may_read p _ _ (omega (arith, c.loop-i-test.true)) c.radix_by_shift-r.ensures, may_read p _ _ c.loop-i-test.true c.radix_by_shift-r.ensures)
 
 pub loop-i-preserved : goal.loop-i-preserved
 loop-i-preserved c =
-    let w = c in
-    let i = w in
-    let l = i.loop-i in
-    let r = i in
-    let a = r.args in (
+    let l = c.loop-i in
+    let a = c.args in (
       omega arith,
       simp length-set l.invariant.1,
-      replaced_two a.out.now a.h.n (reading r.radix_by_shift-r.result (digits_of a.digits.now) a.k) l.out l.i _ i.loop-i-test.true r.requires.1 l.invariant.2
-          w.two_readings-two.ensures (i64_kept _ c.out-1.given) (i64_kept _ c.out-in-loop-i-1.given),
+      replaced_two a.out.now a.h.n (reading c.radix_by_shift-r.result (digits_of a.digits.now) a.k) l.out l.i _ c.loop-i-test.true c.requires.1 l.invariant.2
+          c.two_readings-two.ensures (i64_kept _ c.out-1.given) (i64_kept _ c.out-in-loop-i-1.given),
     )
 
 pub reading-requires : goal.reading-requires
 reading-requires c =
-    let r = c in
-    may_read r.requires.0 _ _ c.if-i-n.true r.radix_by_shift-r.ensures
+    may_read c.requires.0 _ _ c.if-i-n.true c.radix_by_shift-r.ensures
 
 pub returns-then-i-n : goal.returns-then-i-n
 returns-then-i-n c =
     let l = c.loop-i in
     let r = c.radix_by_shift-r in
-    let s = c in
-    let a = s.args in
+    let a = c.args in
     rw r.ensures at
-    (replaced_last a.out.now a.h.n (reading r.result (digits_of a.digits.now) a.k) l.out l.i _ c.if-i-n.true (omega arith) s.requires.1 l.invariant.2
+    (replaced_last a.out.now a.h.n (reading r.result (digits_of a.digits.now) a.k) l.out l.i _ c.if-i-n.true (omega arith) c.requires.1 l.invariant.2
     (i64_kept _ c.reading.type_inv ∙ c.reading.ensures))
 
 pub returns-else-i-n : goal.returns-else-i-n

@@ -11,10 +11,8 @@ overflow_mul-y c = reading-product-fits c.requires c.loop-j.j c.loop-j-test.true
 
 pub overflow_add-y : goal.overflow_add-y
 overflow_add-y c =
-    let l = c in
-    reading-sum-fits l.requires l.loop-j.j c.loop-j-test.true l.loop-j.y-bits l.loop-j.invariant.1 _ c.widen.ensures
+    reading-sum-fits c.requires c.loop-j.j c.loop-j-test.true c.loop-j.y-bits c.loop-j.invariant.1 _ c.widen.ensures
 
 pub loop-j-preserved : goal.loop-j-preserved
 loop-j-preserved c =
-    let l = c in
-    (omega arith, reading-next l.requires l.loop-j.j c.loop-j-test.true l.loop-j.y-bits l.loop-j.invariant.1 _ c.widen.ensures)
+    (omega arith, reading-next c.requires c.loop-j.j c.loop-j-test.true c.loop-j.y-bits c.loop-j.invariant.1 _ c.widen.ensures)

@@ -15,10 +15,8 @@ put_readings-requires c =
 
 pub returns-then-answer-eq0 : goal.returns-then-answer-eq0
 returns-then-answer-eq0 c =
-    let p = c in
-    let t = p in
-    let a = t.args in
-    let both = readings_writes a.s a.out.now _ _ t.check-bad.ensures t.readings_refusal-answer.ensures _ t.if-answer-eq0.true p.put_readings.ensures in
+    let a = c.args in
+    let both = readings_writes a.s a.out.now _ _ c.check-bad.ensures c.readings_refusal-answer.ensures _ c.if-answer-eq0.true c.put_readings.ensures in
     record { answer = both.0; list = both.1 }
 
 pub returns-else-answer-eq0 : goal.returns-else-answer-eq0

@@ -11,28 +11,22 @@ overflow_mul-first c = reading-product-fits c.requires.0 c.loop-j.j c.loop-j-tes
 
 pub overflow_add-first : goal.overflow_add-first
 overflow_add-first c =
-    let l = c in
-    reading-sum-fits l.requires.0 l.loop-j.j c.loop-j-test.true l.loop-j.first-bits l.loop-j.invariant.1 _ c.widen.ensures
+    reading-sum-fits c.requires.0 c.loop-j.j c.loop-j-test.true c.loop-j.first-bits c.loop-j.invariant.1 _ c.widen.ensures
 
 pub overflow_mul-second : goal.overflow_mul-second
 overflow_mul-second c =
-    let l = c in
-    reading-product-fits l.requires.1 l.loop-j.j c.loop-j-test.true l.loop-j.second-bits l.loop-j.invariant.2
+    reading-product-fits c.requires.1 c.loop-j.j c.loop-j-test.true c.loop-j.second-bits c.loop-j.invariant.2
 
 pub overflow_add-second : goal.overflow_add-second
 overflow_add-second c =
-    let w = c in
-    let l = w in
-    let a = l.args in
-    reading-sum-fits l.requires.1 l.loop-j.j w.loop-j-test.true l.loop-j.second-bits l.loop-j.invariant.2 _ (next_row a.digits.now l.loop-j.j a.i c.widen-in-loop-j.ensures)
+    let a = c.args in
+    reading-sum-fits c.requires.1 c.loop-j.j c.loop-j-test.true c.loop-j.second-bits c.loop-j.invariant.2 _ (next_row a.digits.now c.loop-j.j a.i c.widen-in-loop-j.ensures)
 
 pub loop-j-preserved : goal.loop-j-preserved
 loop-j-preserved c =
-    let w = c in
-    let l = w in
-    let a = l.args in
-    let t = w.loop-j-test.true in (
+    let a = c.args in
+    let t = c.loop-j-test.true in (
       omega arith,
-      reading-next l.requires.0 l.loop-j.j t l.loop-j.first-bits l.loop-j.invariant.1 _ w.widen.ensures,
-      reading-next l.requires.1 l.loop-j.j t l.loop-j.second-bits l.loop-j.invariant.2 _ (next_row a.digits.now l.loop-j.j a.i c.widen-in-loop-j.ensures),
+      reading-next c.requires.0 c.loop-j.j t c.loop-j.first-bits c.loop-j.invariant.1 _ c.widen.ensures,
+      reading-next c.requires.1 c.loop-j.j t c.loop-j.second-bits c.loop-j.invariant.2 _ (next_row a.digits.now c.loop-j.j a.i c.widen-in-loop-j.ensures),
     )

@@ -24,8 +24,7 @@ pub returns-then-s-frame_length : goal.returns-then-s-frame_length
 returns-then-s-frame_length c =
     let read : HeaderRead c.args.s.now c.read_header-h.result c.read_refusal-c.result =
     record { long = omega arith; header = c.read_header-h.ensures; refusal = c.read_refusal-c.ensures } in
-    let b = c in
-    length_decides read b.if-c-gt0.false b.frame_length.ensures c.if-s-frame_length.true
+    length_decides read c.if-c-gt0.false c.frame_length.ensures c.if-s-frame_length.true
 
 pub frame_bits-requires : goal.frame_bits-requires
 frame_bits-requires c =
@@ -37,18 +36,12 @@ pub returns-then-not-fill_is_zero : goal.returns-then-not-fill_is_zero
 returns-then-not-fill_is_zero c =
     let read : HeaderRead c.args.s.now c.read_header-h.result c.read_refusal-c.result =
     record { long = omega arith; header = c.read_header-h.ensures; refusal = c.read_refusal-c.ensures } in
-    let z = c in
-    let d = z in
-    let b = d in
-    fill_decides read b.if-c-gt0.false b.frame_length.ensures
-    d.if-s-frame_length.false d.frame_bits.ensures z.fill_is_zero.ensures (ap not c.if-not-fill_is_zero.true)
+    fill_decides read c.if-c-gt0.false c.frame_length.ensures
+    c.if-s-frame_length.false c.frame_bits.ensures c.fill_is_zero.ensures (ap not c.if-not-fill_is_zero.true)
 
 pub returns : goal.returns
 returns c =
     let read : HeaderRead c.args.s.now c.read_header-h.result c.read_refusal-c.result =
     record { long = omega arith; header = c.read_header-h.ensures; refusal = c.read_refusal-c.ensures } in
-    let z = c in
-    let d = z in
-    let b = d in
-    none_decides read b.if-c-gt0.false b.frame_length.ensures
-    d.if-s-frame_length.false d.frame_bits.ensures z.fill_is_zero.ensures (ap not c.if-not-fill_is_zero.false)
+    none_decides read c.if-c-gt0.false c.frame_length.ensures
+    c.if-s-frame_length.false c.frame_bits.ensures c.fill_is_zero.ensures (ap not c.if-not-fill_is_zero.false)

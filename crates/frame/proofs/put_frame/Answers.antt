@@ -5,10 +5,6 @@ use Rattle.frame.proofs.put_frame.Goals as goal
 
 pub returns : goal.returns
 returns c =
-    let n = c in
-    let w = n in
-    let x = w in
-    let k = x in
-    let a = k.args in
-    put_both a.h a.v.now a.s.now k.requires
-    (slice_bytes a.s.now k.slice_known-1.given) x.header_number.ensures w.write_bytes.ensures n.write_numbers.ensures
+    let a = c.args in
+    put_both a.h a.v.now a.s.now c.requires
+    (slice_bytes a.s.now c.slice_known-1.given) c.header_number.ensures c.write_bytes.ensures c.write_numbers.ensures

@@ -36,16 +36,14 @@ returns-then-d-gt0 c =
     let unpacked : let u = c in
     Unpacked u.args.s.now u.unpack-a.result u.unpack-a.new.v c.count-n.result =
     unpack_gives _ _ c.unpack-a.ensures c.if-a-gt0.false c.count-n.ensures in
-    let d = c in
-    frame_refuses unpacked _ d.system_verdict-d.ensures c.refused.ensures c.if-d-gt0.true
+    frame_refuses unpacked _ c.system_verdict-d.ensures c.refused.ensures c.if-d-gt0.true
 
 pub returns-then-room-n : goal.returns-then-room-n
 returns-then-room-n c =
     let unpacked : let u = c in
     Unpacked u.args.s.now u.unpack-a.result u.unpack-a.new.v c.count-n.result =
     unpack_gives _ _ c.unpack-a.ensures c.if-a-gt0.false c.count-n.ensures in
-    let d = c in
-    list_decides unpacked _ d.system_verdict-d.ensures c.if-d-gt0.false c.refused-then-room-n.ensures c.if-room-n.true
+    list_decides unpacked _ c.system_verdict-d.ensures c.if-d-gt0.false c.refused-then-room-n.ensures c.if-room-n.true
 
 pub slice_bounds-v-end-2 : goal.slice_bounds-v-end-2
 slice_bounds-v-end-2 c =
@@ -66,6 +64,4 @@ returns c =
     let unpacked : let u = c in
     Unpacked u.args.s.now u.unpack-a.result u.unpack-a.new.v c.count-n.result =
     unpack_gives _ _ c.unpack-a.ensures c.if-a-gt0.false c.count-n.ensures in
-    let l = c in
-    let d = l in
-    none_decides unpacked _ d.system_verdict-d.ensures l.if-d-gt0.false unpacked.answer c.copy.ensures l.if-room-n.false
+    none_decides unpacked _ c.system_verdict-d.ensures c.if-d-gt0.false unpacked.answer c.copy.ensures c.if-room-n.false

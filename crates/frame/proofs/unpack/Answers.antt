@@ -6,12 +6,11 @@ use Rattle.frame.proofs.unpack.Goals as goal
 
 pub returns-then-c-gt0 : goal.returns-then-c-gt0
 returns-then-c-gt0 c =
-    let r = c in
-    let a = r.args in
-    unpack_refused a.s.now a.v.now r.layout_refusal-c.ensures c.if-c-gt0.true c.refused.ensures
+    let a = c.args in
+    unpack_refused a.s.now a.v.now c.layout_refusal-c.ensures c.if-c-gt0.true c.refused.ensures
 
 pub read_header-h-requires : goal.read_header-h-requires
-read_header-h-requires c = let r = c in unpack_long r.args.s.now r.layout_refusal-c.ensures c.if-c-gt0.false
+read_header-h-requires c = unpack_long c.args.s.now c.layout_refusal-c.ensures c.if-c-gt0.false
 
 pub overflow_add-h : goal.overflow_add-h
 overflow_add-h c =
@@ -29,15 +28,10 @@ pub read_numbers-requires : goal.read_numbers-requires
 read_numbers-requires c =
     let read : LayoutRead c.args.s.now c.read_header-h.result =
     layout_read c.layout_refusal-c.ensures c.if-c-gt0.false c.read_header-h.ensures in
-    let n = c in
-    let h = n in
-    let s = h in
-    unpack_room read n.count.ensures s.args.v.now s.requires
+    unpack_room read c.count.ensures c.args.v.now c.requires
 
 pub returns : goal.returns
 returns c =
     let read : LayoutRead c.args.s.now c.read_header-h.result =
     layout_read c.layout_refusal-c.ensures c.if-c-gt0.false c.read_header-h.ensures in
-    let n = c in
-    let h = n in
-    unpack_accepted read n.count.ensures h.args.v.now c.read_numbers.ensures
+    unpack_accepted read c.count.ensures c.args.v.now c.read_numbers.ensures

@@ -4,40 +4,31 @@ use Rattle.frame.proofs.write_frame.Goals as goal
 
 pub returns-then-d-gt0 : goal.returns-then-d-gt0
 returns-then-d-gt0 c =
-    let d = c in
-    let a = d.args in
-    write-refused a.h a.v.now a.out.now d.writer_verdict-d.ensures c.if-d-gt0.true
+    let a = c.args in
+    write-refused a.h a.v.now a.out.now c.writer_verdict-d.ensures c.if-d-gt0.true
 
 pub frame_length-n-requires : goal.frame_length-n-requires
 frame_length-n-requires c =
-    let d = c in
-    let a = d.args in
-    (write-valid a.h a.v.now a.out.now d.writer_verdict-d.ensures c.if-d-gt0.false).0.limits
+    let a = c.args in
+    (write-valid a.h a.v.now a.out.now c.writer_verdict-d.ensures c.if-d-gt0.false).0.limits
 
 pub slice_bounds-put_frame-end : goal.slice_bounds-put_frame-end
 slice_bounds-put_frame-end c =
-    let d = c in
-    let a = d.args in
-    part_within a.h a.v.now a.out.now d.writer_verdict-d.ensures c.if-d-gt0.false c.frame_length-n.ensures
+    let a = c.args in
+    part_within a.h a.v.now a.out.now c.writer_verdict-d.ensures c.if-d-gt0.false c.frame_length-n.ensures
 
 pub slice_bounds-put_frame-end-2 : goal.slice_bounds-put_frame-end-2
 slice_bounds-put_frame-end-2 c =
-    let b = c in
-    let d = b in
-    let a = d.args in
-    part_long a.h a.v.now a.out.now d.writer_verdict-d.ensures b.if-d-gt0.false b.frame_length-n.ensures
+    let a = c.args in
+    part_long a.h a.v.now a.out.now c.writer_verdict-d.ensures c.if-d-gt0.false c.frame_length-n.ensures
 
 pub put_frame-requires : goal.put_frame-requires
 put_frame-requires c =
-    let b = c in
-    let d = b in
-    let a = d.args in
-    part_ready a.h a.v.now a.out.now d.writer_verdict-d.ensures b.if-d-gt0.false b.frame_length-n.ensures
+    let a = c.args in
+    part_ready a.h a.v.now a.out.now c.writer_verdict-d.ensures c.if-d-gt0.false c.frame_length-n.ensures
 
 pub returns : goal.returns
 returns c =
-    let b = c in
-    let d = b in
-    let a = d.args in
-    write-taken a.h a.v.now a.out.now d.writer_verdict-d.ensures
-    b.if-d-gt0.false b.frame_length-n.ensures c.put_frame.ensures
+    let a = c.args in
+    write-taken a.h a.v.now a.out.now c.writer_verdict-d.ensures
+    c.if-d-gt0.false c.frame_length-n.ensures c.put_frame.ensures

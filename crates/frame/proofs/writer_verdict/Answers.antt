@@ -14,32 +14,22 @@ numbers_verdict-d-requires c =
 
 pub returns-then-d-gt0 : goal.returns-then-d-gt0
 returns-then-d-gt0 c =
-    let d = c in
-    let r = d in
-    let a = r.args in
-    numbers_decide a.h a.v.now a.room r.header_refusal-c.ensures d.if-c-gt0.false d.numbers_verdict-d.ensures c.if-d-gt0.true
+    let a = c.args in
+    numbers_decide a.h a.v.now a.room c.header_refusal-c.ensures c.if-c-gt0.false c.numbers_verdict-d.ensures c.if-d-gt0.true
 
 pub frame_length-requires : goal.frame_length-requires
 frame_length-requires c =
-    let d = c in
-    let r = d in
-    let a = r.args in
-    writer_limits a.h a.v.now a.room r.header_refusal-c.ensures d.if-c-gt0.false
+    let a = c.args in
+    writer_limits a.h a.v.now a.room c.header_refusal-c.ensures c.if-c-gt0.false
 
 pub returns-then-room-frame_length : goal.returns-then-room-frame_length
 returns-then-room-frame_length c =
-    let b = c in
-    let d = b in
-    let r = d in
-    let a = r.args in
-    room_decides a.h a.v.now a.room r.header_refusal-c.ensures
-    d.if-c-gt0.false d.numbers_verdict-d.ensures b.if-d-gt0.false b.frame_length.ensures c.if-room-frame_length.true
+    let a = c.args in
+    room_decides a.h a.v.now a.room c.header_refusal-c.ensures
+    c.if-c-gt0.false c.numbers_verdict-d.ensures c.if-d-gt0.false c.frame_length.ensures c.if-room-frame_length.true
 
 pub returns : goal.returns
 returns c =
-    let b = c in
-    let d = b in
-    let r = d in
-    let a = r.args in
-    none_decides a.h a.v.now a.room r.header_refusal-c.ensures
-    d.if-c-gt0.false d.numbers_verdict-d.ensures b.if-d-gt0.false b.frame_length.ensures c.if-room-frame_length.false
+    let a = c.args in
+    none_decides a.h a.v.now a.room c.header_refusal-c.ensures
+    c.if-c-gt0.false c.numbers_verdict-d.ensures c.if-d-gt0.false c.frame_length.ensures c.if-room-frame_length.false

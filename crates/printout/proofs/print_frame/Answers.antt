@@ -11,8 +11,6 @@ returns-then-out-lt-TEXT_ROOM c =
 
 pub returns : goal.returns
 returns c =
-    let p = c in
-    let e = p in
-    let a = e.args in
-    let both = print_accepted a.s.now a.out.now p.put_frame_text.result _ (omega (arith, e.if-out-lt-TEXT_ROOM.false)) p.put_frame_text.ensures.value p.put_frame_text.ensures.out_after in
+    let a = c.args in
+    let both = print_accepted a.s.now a.out.now c.put_frame_text.result _ (omega (arith, c.if-out-lt-TEXT_ROOM.false)) c.put_frame_text.ensures.value c.put_frame_text.ensures.out_after in
     record { answer = both.0; buffer = both.1 }

@@ -40,11 +40,5 @@ put_byte-requires c =
 pub returns : goal.returns
 unfolding line_end
 returns c =
-    let e = c in
-    let f = e in
-    let d = f in
-    let b = d in
-    let a = b in
-    let k = a in
-    put_then k.put_natural_item-a.ensures
-    (put_then a.put_natural_item-b.ensures (put_then b.put_natural_item-c.ensures (put_then d.put_natural_item-d.ensures (put_then f.put_natural_item-e.ensures e.put_byte.ensures))))
+    put_then c.put_natural_item-a.ensures
+    (put_then c.put_natural_item-b.ensures (put_then c.put_natural_item-c.ensures (put_then c.put_natural_item-d.ensures (put_then c.put_natural_item-e.ensures c.put_byte.ensures))))

@@ -14,14 +14,10 @@ put_natural_item-b-requires c =
 
 pub put_fields-requires : goal.put_fields-requires
 put_fields-requires c =
-    let r = c in
-    let h = r.args.h in
-    omega (arith, length-decimal h.kind, length-decimal r.radix.result)
+    let h = c.args.h in
+    omega (arith, length-decimal h.kind, length-decimal c.radix.result)
 
 pub returns : goal.returns
 unfolding line_end
 returns c =
-    let e = c in
-    let b = e in
-    let a = b in
-    rw (← b.radix.ensures) (put_then a.put_decimal-a.ensures (put_then b.put_natural_item-b.ensures e.put_fields.ensures))
+    rw (← c.radix.ensures) (put_then c.put_decimal-a.ensures (put_then c.put_natural_item-b.ensures c.put_fields.ensures))

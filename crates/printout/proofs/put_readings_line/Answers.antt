@@ -6,14 +6,8 @@ use Rattle.printout.proofs.put_readings_line.Goals as goal
 
 pub put_numbers-requires : goal.put_numbers-requires
 put_numbers-requires c =
-    let d = c in
-    let s = d in
-    (order_small s.args.s s.requires.0, omega (arith, d.put_byte-from.ensures.ends, d.put_byte-from.auto.out))
+    (order_small c.args.s c.requires.0, omega (arith, c.put_byte-from.ensures.ends, c.put_byte-from.auto.out))
 
 pub returns : goal.returns
 returns c =
-    let e = c in
-    let d = e in
-    let r = d in
-    let s = r in
-    put_then d.put_byte-from.ensures (readings-put s.args.s s.requires.0 _ _ (omega arith) r.readings.ensures.list e.put_numbers.ensures)
+    put_then c.put_byte-from.ensures (readings-put c.args.s c.requires.0 _ _ (omega arith) c.readings.ensures.list c.put_numbers.ensures)

@@ -19,24 +19,15 @@ put_byte-requires c =
 
 pub returns-then-c-eq8 : goal.returns-then-c-eq8
 returns-then-c-eq8 c =
-    let e = c in
-    let d = e in
-    let t = d in
-    let n = t in
-    let w = n in
-    let a = w.args in
-    refused-row a.c a.row t.if-c-eq8.true
-    (put_then w.put_bytes-word.ensures (put_then n.put_natural_item-number.ensures (put_then d.put_natural_item-given.ensures e.put_byte.ensures)))
+    let a = c.args in
+    refused-row a.c a.row c.if-c-eq8.true
+    (put_then c.put_bytes-word.ensures (put_then c.put_natural_item-number.ensures (put_then c.put_natural_item-given.ensures c.put_byte.ensures)))
 
 pub put_byte-requires-2 : goal.put_byte-requires-2
 put_byte-requires-2 c = omega (arith, length-decimal c.args.c)
 
 pub returns : goal.returns
 returns c =
-    let e = c in
-    let t = e in
-    let n = t in
-    let w = n in
-    let a = w.args in
-    refused_plain a.c a.row t.if-c-eq8.false
-    (put_then w.put_bytes-word.ensures (put_then n.put_natural_item-number.ensures e.put_byte-2.ensures))
+    let a = c.args in
+    refused_plain a.c a.row c.if-c-eq8.false
+    (put_then c.put_bytes-word.ensures (put_then c.put_natural_item-number.ensures c.put_byte-2.ensures))

@@ -10,11 +10,9 @@ put_decimal-from-requires c = omega (arith, length-decimal (c.args.t + 1))
 
 pub put_digits-requires : goal.put_digits-requires
 put_digits-requires c =
-    let s = c in
-    (s.requires.0, s.requires.1, omega (arith, length-decimal (s.args.t + 1)))
+    (c.requires.0, c.requires.1, omega (arith, length-decimal (c.args.t + 1)))
 
 pub returns : goal.returns
 returns c =
-    let b = c in
-    let e = add-one b.args.t in
-    rw (← e) (put_then b.put_decimal-from.ensures (rw (← e) at c.put_digits.ensures))
+    let e = add-one c.args.t in
+    rw (← e) (put_then c.put_decimal-from.ensures (rw (← e) at c.put_digits.ensures))

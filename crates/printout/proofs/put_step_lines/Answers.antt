@@ -8,15 +8,11 @@ loop-t-init c = (omega arith, refl, steps-start c.args.s)
 
 pub put_step_line-end-requires : goal.put_step_line-end-requires
 put_step_line-end-requires c =
-    let l = c in
-    let s = l in
-    (omega arith, s.requires.0, step_room s.args.s l.loop-t.t l.loop-t.invariant.2 l.loop-t.invariant.1 s.requires.0 (omega arith) s.requires.2)
+    (omega arith, c.requires.0, step_room c.args.s c.loop-t.t c.loop-t.invariant.2 c.loop-t.invariant.1 c.requires.0 (omega arith) c.requires.2)
 
 pub loop-t-preserved : goal.loop-t-preserved
-loop-t-preserved c =
-    let d = c in
-    let l = d in (
-      omega arith,
-      d.put_step_line-end.auto.out ∙ l.loop-t.invariant.1,
-      steps_next l.args.s l.loop-t.t l.loop-t.invariant.2 d.put_step_line-end.ensures,
-    )
+loop-t-preserved c = (
+  omega arith,
+  c.put_step_line-end.auto.out ∙ c.loop-t.invariant.1,
+  steps_next c.args.s c.loop-t.t c.loop-t.invariant.2 c.put_step_line-end.ensures,
+)

@@ -10,9 +10,8 @@ loop-j-init c = (omega arith, omega arith, sym (no_column _))
 
 pub loop-j-preserved : goal.loop-j-preserved
 loop-j-preserved c =
-    let i = c in
-    let l = i.loop-j in
-    let d = at i.args.d.now in
+    let l = c.loop-j in
+    let d = at c.args.d.now in
     elim c.if-d-j-ne0.branch [
       | then-d-j-ne0 w ↦ (omega arith, omega arith, w.count-is ∙ rw l.invariant.2 (sym (column-counted d l.j (not_skipped (d l.j) w.if-d-j-ne0.true))))
       | else-d-j-ne0 w ↦ (omega arith, omega arith, w.count-is ∙ l.invariant.2 ∙ sym (column_not_counted d l.j (zero-skipped (d l.j) c.t8-1.given w.if-d-j-ne0.false)))

@@ -22,7 +22,6 @@ loop-i-preserved c =
 pub returns : goal.returns
 returns c =
     let l = c.loop-i in
-    let b = c in
-    let a = b.args in
+    let a = c.args in
     let e = none_left (at a.s.now) a.n (a.to + 1) _ l.out l.i c.loop-i-test.false l.invariant.2 in
-    rw (i64_kept _ b.to_signed.type_inv ∙ b.to_signed.ensures, add-one a.to) at e
+    rw (i64_kept _ c.to_signed.type_inv ∙ c.to_signed.ensures, add-one a.to) at e

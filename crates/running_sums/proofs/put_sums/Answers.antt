@@ -11,38 +11,32 @@ loop-j-init c = (omega arith, none-put)
 
 pub add_column-requires : goal.add_column-requires
 add_column-requires c =
-    let w = c in
-    let i = w in
-    may_add i.loop-j.invariant.1 i.requires i.loop-j-test.true _ w.widen.ensures
+    may_add c.loop-j.invariant.1 c.requires c.loop-j-test.true _ c.widen.ensures
 
 pub put_column-requires : goal.put_column-requires
 put_column-requires c =
     let digit : ℤ =
     at c.args.d.now c.loop-j.j in
-    let t = c in
-    let i = t in
-    may-put-column i.loop-j.invariant.1 i.requires i.loop-j-test.true _ c.widen.ensures (not_skipped digit t.if-digit-ne0.true)
+    may-put-column c.loop-j.invariant.1 c.requires c.loop-j-test.true _ c.widen.ensures (not_skipped digit c.if-digit-ne0.true)
 
 pub overflow_add-to-then-digit-ne0 : goal.overflow_add-to-then-digit-ne0
 overflow_add-to-then-digit-ne0 c =
-    let i = c in
-    let p = i.requires.order in
-    omega (arith, words_few i.loop-j.invariant.1 p i.loop-j-test.true, p)
+    let p = c.requires.order in
+    omega (arith, words_few c.loop-j.invariant.1 p c.loop-j-test.true, p)
 
 pub loop-j-preserved : goal.loop-j-preserved
 loop-j-preserved c =
     let digit : ℤ =
     at c.args.d.now c.loop-j.j in
-    let i = c in
-    let l = i.loop-j in
+    let l = c.loop-j in
     elim c.if-digit-ne0.branch [
       | then-digit-ne0 w ↦ (
-        omega (arith, i.loop-j-test.true),
+        omega (arith, c.loop-j-test.true),
         rw (w.out-is, w.s-is, w.to-is)
-            (column-put l.invariant.1 i.requires i.loop-j-test.true _ w.widen.ensures (not_skipped digit w.if-digit-ne0.true) w.add_column.ensures w.put_column.ensures),
+            (column-put l.invariant.1 c.requires c.loop-j-test.true _ w.widen.ensures (not_skipped digit w.if-digit-ne0.true) w.add_column.ensures w.put_column.ensures),
       )
       | else-digit-ne0 w ↦ (
-        omega (arith, i.loop-j-test.true),
+        omega (arith, c.loop-j-test.true),
         rw (w.out-is, w.s-is, w.to-is)
             (column-skipped l.invariant.1 (zero-skipped digit c.digit-1.given w.if-digit-ne0.false)),
       )

@@ -12,57 +12,41 @@ returns-then-bad-gt0 c =
 
 pub last_digits-d-requires : goal.last_digits-d-requires
 last_digits-d-requires c =
-    let e = c in
-    let a = e.args in
-    may_copy_digits a.s a.out.now _ e.check-bad.ensures e.if-bad-gt0.false
+    let a = c.args in
+    may_copy_digits a.s a.out.now _ c.check-bad.ensures c.if-bad-gt0.false
 
 pub overflow_add-count : goal.overflow_add-count
 overflow_add-count c =
     let order : c.args.s.header.n ≤ 16 =
-    let e = c in
-    let a = e.args in
-    (may_copy_digits a.s a.out.now _ e.check-bad.ensures e.if-bad-gt0.false).1 in
+    let a = c.args in
+    (may_copy_digits a.s a.out.now _ c.check-bad.ensures c.if-bad-gt0.false).1 in
     omega (arith, order)
 
 pub count_columns-requires : goal.count_columns-requires
 count_columns-requires c =
     let order : c.args.s.header.n ≤ 16 =
-    let e = c in
-    let a = e.args in
-    (may_copy_digits a.s a.out.now _ e.check-bad.ensures e.if-bad-gt0.false).1 in
+    let a = c.args in
+    (may_copy_digits a.s a.out.now _ c.check-bad.ensures c.if-bad-gt0.false).1 in
     order
 
 pub overflow_mul-count : goal.overflow_mul-count
 overflow_mul-count c =
-    let t = c in
-    let e = t in
-    let a = e.args in
-    omega (arith, count_small a.s a.out.now _ e.check-bad.ensures e.if-bad-gt0.false _ t.last_digits-d.ensures _ c.count_columns.ensures)
+    let a = c.args in
+    omega (arith, count_small a.s a.out.now _ c.check-bad.ensures c.if-bad-gt0.false _ c.last_digits-d.ensures _ c.count_columns.ensures)
 
 pub returns-then-out-count : goal.returns-then-out-count
 returns-then-out-count c =
-    let k = c in
-    let t = k in
-    let e = t in
-    let a = e.args in
-    let p = list_refuses a.s a.out.now _ e.check-bad.ensures e.if-bad-gt0.false _ t.last_digits-d.ensures _ k.count_columns.ensures c.if-out-count.true in
+    let a = c.args in
+    let p = list_refuses a.s a.out.now _ c.check-bad.ensures c.if-bad-gt0.false _ c.last_digits-d.ensures _ c.count_columns.ensures c.if-out-count.true in
     record { answer = p.0; list = p.1 }
 
 pub put_sums-requires : goal.put_sums-requires
 put_sums-requires c =
-    let f = c in
-    let k = f in
-    let t = k in
-    let e = t in
-    let a = e.args in
-    may-put a.s a.out.now _ e.check-bad.ensures e.if-bad-gt0.false _ t.last_digits-d.ensures _ k.count_columns.ensures f.if-out-count.false
+    let a = c.args in
+    may-put a.s a.out.now _ c.check-bad.ensures c.if-bad-gt0.false _ c.last_digits-d.ensures _ c.count_columns.ensures c.if-out-count.false
 
 pub returns : goal.returns
 returns c =
-    let f = c in
-    let k = f in
-    let t = k in
-    let e = t in
-    let a = e.args in
-    let p = sums-put a.s a.out.now _ e.check-bad.ensures e.if-bad-gt0.false _ t.last_digits-d.ensures _ k.count_columns.ensures f.if-out-count.false _ c.put_sums.ensures in
+    let a = c.args in
+    let p = sums-put a.s a.out.now _ c.check-bad.ensures c.if-bad-gt0.false _ c.last_digits-d.ensures _ c.count_columns.ensures c.if-out-count.false _ c.put_sums.ensures in
     record { answer = p.0; list = p.1 }

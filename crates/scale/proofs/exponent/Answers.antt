@@ -8,7 +8,7 @@ pub pow2-requires : goal.pow2-requires
 pow2-requires c = omega (arith, length_most c.args.a c.requires)
 
 pub returns-then-a-pow2 : goal.returns-then-a-pow2
-returns-then-a-pow2 c = let s = c in exact_is s.args.a s.requires (c.if-a-pow2.true ∙ c.pow2.ensures)
+returns-then-a-pow2 c = exact_is c.args.a c.requires (c.if-a-pow2.true ∙ c.pow2.ensures)
 
 pub returns-else-a-pow2 : goal.returns-else-a-pow2
-returns-else-a-pow2 c = let s = c in between_is s.args.a s.requires (λ e. c.if-a-pow2.false (e ∙ sym c.pow2.ensures))
+returns-else-a-pow2 c = between_is c.args.a c.requires (λ e. c.if-a-pow2.false (e ∙ sym c.pow2.ensures))

@@ -4,5 +4,4 @@ use Rattle.selection.proofs.digit_at.Goals as goal
 
 pub held_back-requires : goal.held_back-requires
 held_back-requires c =
-    let s = c in
-    (s.requires.0, entry-within s.args.e s.requires.1 _ c.to_unsigned-place.ensures s.args.choices.now s.requires.2 _ c.widen.ensures)
+    (c.requires.0, entry-within c.args.e c.requires.1 _ c.to_unsigned-place.ensures c.args.choices.now c.requires.2 _ c.widen.ensures)

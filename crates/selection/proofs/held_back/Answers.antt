@@ -4,5 +4,4 @@ use Rattle.selection.proofs.held_back.Goals as goal
 
 pub returns : goal.returns
 returns c =
-    let s = c in
-    held_back_is s.args.p s.requires.0 s.args.entry _ _ s.requires.1 c.greater-raised.ensures c.lesser.ensures
+    held_back_is c.args.p c.requires.0 c.args.entry _ _ c.requires.1 c.greater-raised.ensures c.lesser.ensures

@@ -7,10 +7,8 @@ estimate-e-requires c = (c.requires.0, c.requires.1, w_within c.args.w c.args.f 
 
 pub digit_at-requires : goal.digit_at-requires
 digit_at-requires c =
-    let s = c in
-    (s.requires.2, e_in_table s.args.w s.args.f s.args.p s.requires.1 s.requires.2 s.requires.3 _ c.estimate-e.ensures, s.requires.4)
+    (c.requires.2, e_in_table c.args.w c.args.f c.args.p c.requires.1 c.requires.2 c.requires.3 _ c.estimate-e.ensures, c.requires.4)
 
 pub returns : goal.returns
 returns c =
-    let s = c in
-    select_is s.args.w s.args.f s.args.p s.requires.1 s.requires.2 s.requires.3 _ c.estimate-e.ensures _ c.digit_at.ensures
+    select_is c.args.w c.args.f c.args.p c.requires.1 c.requires.2 c.requires.3 _ c.estimate-e.ensures _ c.digit_at.ensures

@@ -10,13 +10,11 @@ loop-c-init c = (omega arith, refl, λ i l. at-zeros i ∙ sym (sum-zero _))
 
 pub add_rows-requires : goal.add_rows-requires
 add_rows-requires c =
-    let i = c in
-    let l = i.loop-c in
-    may_add i.requires l.c i.loop-c-test.true l.s l.invariant.2
+    let l = c.loop-c in
+    may_add c.requires l.c c.loop-c-test.true l.s l.invariant.2
 
 pub loop-c-preserved : goal.loop-c-preserved
 loop-c-preserved c =
-    let i = c in
-    let l = i.loop-c in
-    let n = sums_next i.requires l.c i.loop-c-test.true l.s l.invariant.2 l.invariant.1 _ c.add_rows.ensures in
+    let l = c.loop-c in
+    let n = sums_next c.requires l.c c.loop-c-test.true l.s l.invariant.2 l.invariant.1 _ c.add_rows.ensures in
     (omega arith, n.0, n.1)

@@ -13,22 +13,18 @@ loop-i-init c =
 
 pub counted-c-requires : goal.counted-c-requires
 counted-c-requires c =
-    let i = c in
-    let l = i.loop-i in
-    let p = i in
-    omega (arith, entries-few p.args.g.now p.args.j l.i, l.invariant.2, i.loop-i-test.true, p.requires.0)
+    let l = c.loop-i in
+    omega (arith, entries-few c.args.g.now c.args.j l.i, l.invariant.2, c.loop-i-test.true, c.requires.0)
 
 pub loop-i-preserved : goal.loop-i-preserved
 loop-i-preserved c =
-    let v = c in
-    let a = v in
-    let l = v.loop-i in
-    let t = v.loop-i-test.true in
-    let e : 16 * a.args.j + l.i + 1 ≡ 16 * a.args.j + (l.i + 1) = omega arith in (
+    let l = c.loop-i in
+    let t = c.loop-i-test.true in
+    let e : 16 * c.args.j + l.i + 1 ≡ 16 * c.args.j + (l.i + 1) = omega arith in (
       omega arith,
       rw e at
-          (tabulated_next (omega (arith, a.requires.0, a.requires.1, t)) l.invariant.1 _ _
-          (negative_is a.args.n a.args.g.now a.requires.0 a.requires.2 l.i a.args.j t a.requires.1)
-          (entry_kept a.args.n a.args.g.now a.requires.0 a.requires.2 l.i a.args.j t a.requires.1)),
-      entries_next a.args.g.now a.args.j l.i v.v-1.given l.invariant.2 c.counted-c.ensures,
+          (tabulated_next (omega (arith, c.requires.0, c.requires.1, t)) l.invariant.1 _ _
+          (negative_is c.args.n c.args.g.now c.requires.0 c.requires.2 l.i c.args.j t c.requires.1)
+          (entry_kept c.args.n c.args.g.now c.requires.0 c.requires.2 l.i c.args.j t c.requires.1)),
+      entries_next c.args.g.now c.args.j l.i c.v-1.given l.invariant.2 c.counted-c.ensures,
     )

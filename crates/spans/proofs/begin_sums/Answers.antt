@@ -6,5 +6,4 @@ use Rattle.spans.proofs.begin_sums.Goals as goal
 
 pub returns : goal.returns
 returns c =
-    let a = c in
-    begun_products a.args.s.now a.requires.0 a.requires.4 (rw (to_z-of_z {w = w64} a.ranges.d) at c.first_products.ensures)
+    begun_products c.args.s.now c.requires.0 c.requires.4 (rw (to_z-of_z {w = w64} c.ranges.d) at c.first_products.ensures)

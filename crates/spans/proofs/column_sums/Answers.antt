@@ -11,27 +11,20 @@ begin_sums-requires c =
 
 pub loop-j-init : goal.loop-j-init
 loop-j-init c =
-    let a = c in
-    (a.requires.0, sums_begun a.requires.1 a.requires.3 a.requires.0 _ c.widen.ensures c.begin_sums.ensures)
+    (c.requires.0, sums_begun c.requires.1 c.requires.3 c.requires.0 _ c.widen.ensures c.begin_sums.ensures)
 
 pub add_entries-requires : goal.add_entries-requires
 add_entries-requires c =
-    let e = c in
-    let i = e in
-    let a = i in
-    let l = i.loop-j in
-    let m = i.loop-j-test.true in
-    may-add-entries a.requires.1 a.requires.3 m l.invariant.1 _ c.widen-in-loop-j.ensures (a.requires.4 l.j m) (a.requires.5 l.j m) (a.requires.7 l.j m)
-    (i64_kept _ e.add_entries-arg-1.given ∙ a.requires.6 l.j m)
+    let l = c.loop-j in
+    let m = c.loop-j-test.true in
+    may-add-entries c.requires.1 c.requires.3 m l.invariant.1 _ c.widen-in-loop-j.ensures (c.requires.4 l.j m) (c.requires.5 l.j m) (c.requires.7 l.j m)
+    (i64_kept _ c.add_entries-arg-1.given ∙ c.requires.6 l.j m)
 
 pub loop-j-preserved : goal.loop-j-preserved
 loop-j-preserved c =
-    let e = c in
-    let i = e in
-    let a = i in
-    let l = i.loop-j in
-    let m = i.loop-j-test.true in (
+    let l = c.loop-j in
+    let m = c.loop-j-test.true in (
       omega arith,
-      entries-more a.requires.1 a.requires.3 m l.invariant.1 _ c.widen-in-loop-j.ensures (a.requires.4 l.j m) (a.requires.5 l.j m) (a.requires.7 l.j m)
-          (i64_kept _ e.add_entries-arg-1.given ∙ a.requires.6 l.j m) c.add_entries.ensures,
+      entries-more c.requires.1 c.requires.3 m l.invariant.1 _ c.widen-in-loop-j.ensures (c.requires.4 l.j m) (c.requires.5 l.j m) (c.requires.7 l.j m)
+          (i64_kept _ c.add_entries-arg-1.given ∙ c.requires.6 l.j m) c.add_entries.ensures,
     )

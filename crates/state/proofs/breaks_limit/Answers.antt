@@ -20,8 +20,7 @@ returns-then-scale_out_of_range c = scale_breaks _ _ c.header_refusal.ensures (o
 
 pub returns-then-last_step-k : goal.returns-then-last_step-k
 returns-then-last_step-k c =
-    let l = c in
-    steps_break _ _ l.header_refusal.ensures (omega arith) l.scale_out_of_range.ensures l.if-scale_out_of_range.false (omega (arith, c.last_step.ensures))
+    steps_break _ _ c.header_refusal.ensures (omega arith) c.scale_out_of_range.ensures c.if-scale_out_of_range.false (omega (arith, c.last_step.ensures))
 
 pub heavy_row-requires : goal.heavy_row-requires
 heavy_row-requires c =
@@ -32,10 +31,8 @@ heavy_row-requires c =
 pub returns-then-heavy_row-gt0 : goal.returns-then-heavy_row-gt0
 returns-then-heavy_row-gt0 c =
     let few : let a = c.args in a.k ≤ last_step a.h a.scale =
-    omega (arith, c.last_step.ensures, c.if-last_step-k.false) in
-    let m = c in
-    let l = m in
-    row_breaks _ _ l.header_refusal.ensures (omega arith) l.scale_out_of_range.ensures l.if-scale_out_of_range.false few c.heavy_row.ensures (omega arith)
+    omega (arith, c.last_step.ensures) in
+    row_breaks _ _ c.header_refusal.ensures (omega arith) c.scale_out_of_range.ensures c.if-scale_out_of_range.false few c.heavy_row.ensures (omega arith)
 
 pub large_residual-requires : goal.large_residual-requires
 large_residual-requires c =
@@ -43,23 +40,16 @@ large_residual-requires c =
     header-passes _ _ c.header_refusal.ensures (omega arith) in
     let scaled : let a = c.args in ScaleLimits a.h a.scale =
     scale-passes _ _ c.header_refusal.ensures (omega arith) _ _ c.scale_out_of_range.ensures c.if-scale_out_of_range.false in
-    let l = c in (limits, scaled)
+    (limits, scaled)
 
 pub returns-then-large_residual-gt0 : goal.returns-then-large_residual-gt0
 returns-then-large_residual-gt0 c =
     let few : let a = c.args in a.k ≤ last_step a.h a.scale =
-    omega (arith, c.last_step.ensures, c.if-last_step-k.false) in
-    let r = c in
-    let m = r in
-    let l = m in
-    residual_breaks _ _ l.header_refusal.ensures (omega arith) l.scale_out_of_range.ensures l.if-scale_out_of_range.false few r.heavy_row.ensures (omega arith) c.large_residual.ensures (omega arith)
+    omega (arith, c.last_step.ensures) in
+    residual_breaks _ _ c.header_refusal.ensures (omega arith) c.scale_out_of_range.ensures c.if-scale_out_of_range.false few c.heavy_row.ensures (omega arith) c.large_residual.ensures (omega arith)
 
 pub returns : goal.returns
 returns c =
     let few : let a = c.args in a.k ≤ last_step a.h a.scale =
-    omega (arith, c.last_step.ensures, c.if-last_step-k.false) in
-    let z = c in
-    let r = z in
-    let m = r in
-    let l = m in
-    digits_decide _ _ l.header_refusal.ensures (omega arith) l.scale_out_of_range.ensures l.if-scale_out_of_range.false few r.heavy_row.ensures (omega arith) z.large_residual.ensures (omega arith) _ c.bad_digit.ensures
+    omega (arith, c.last_step.ensures) in
+    digits_decide _ _ c.header_refusal.ensures (omega arith) c.scale_out_of_range.ensures c.if-scale_out_of_range.false few c.heavy_row.ensures (omega arith) c.large_residual.ensures (omega arith) _ c.bad_digit.ensures

@@ -9,29 +9,23 @@ use Rattle.stepping.proofs.first_sums.Goals as goal
 
 pub returns-then-k-eq0 : goal.returns-then-k-eq0
 returns-then-k-eq0 c =
-    let b = c in
-    zeros-filled b.args.n b.args.g.now b.requires.0 (b.requires.2 (omega arith))
+    zeros-filled c.args.n c.args.g.now c.requires.0 (c.requires.2 (omega arith))
 
 pub loop-j-init : goal.loop-j-init
 loop-j-init c = (omega arith, sums_none _ _ _)
 
 pub add_column-requires : goal.add_column-requires
 add_column-requires c =
-    let i = c in
-    let a = i in
-    let l = i.loop-j in
-    may-add-next a.requires.0 a.requires.1 i.loop-j-test.true l.invariant.1 _ c.widen.ensures (to_last a.args.n a.args.g.now l.j)
+    let l = c.loop-j in
+    may-add-next c.requires.0 c.requires.1 c.loop-j-test.true l.invariant.1 _ c.widen.ensures (to_last c.args.n c.args.g.now l.j)
 
 pub loop-j-preserved : goal.loop-j-preserved
 loop-j-preserved c =
-    let i = c in
-    let a = i in
-    let l = i.loop-j in
-    (omega arith, sums-more a.requires.0 a.requires.1 i.loop-j-test.true l.invariant.1 _ c.widen.ensures (from_first a.args.n a.args.g.now l.j i.loop-j-test.true) (to_last a.args.n a.args.g.now l.j) c.add_column.ensures)
+    let l = c.loop-j in
+    (omega arith, sums-more c.requires.0 c.requires.1 c.loop-j-test.true l.invariant.1 _ c.widen.ensures (from_first c.args.n c.args.g.now l.j c.loop-j-test.true) (to_last c.args.n c.args.g.now l.j) c.add_column.ensures)
 
 pub returns : goal.returns
 returns c =
-    let a = c in
     let l = c.loop-j in
-    let e : l.j ≡ a.args.n = omega (arith, l.invariant.0, c.loop-j-test.false) in
-    sums_done a.requires.0 a.requires.1 (replicate 16 (pos 0)) refl (λ i m. refl) (rw e at l.invariant.1)
+    let e : l.j ≡ c.args.n = omega (arith, l.invariant.0, c.loop-j-test.false) in
+    sums_done c.requires.0 c.requires.1 (replicate 16 (pos 0)) refl (λ i m. refl) (rw e at l.invariant.1)

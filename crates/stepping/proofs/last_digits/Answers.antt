@@ -16,16 +16,14 @@ loop-i-init c = (omega arith, sym (stores-zero _ _ _))
 
 pub loop-i-preserved : goal.loop-i-preserved
 loop-i-preserved c =
-    let st = c in
     let l = c.loop-i in (
       omega arith,
-      stores-more _ (λ t. t) (digits_of st.args.digits.now st.args.k) l.i l.d _ l.invariant.1
-          (i8_kept _ c.d-1.given ∙ step_digit st.args.digits.now st.args.k l.i c.if-k-eq0.false),
+      stores-more _ (λ t. t) (digits_of c.args.digits.now c.args.k) l.i l.d _ l.invariant.1
+          (i8_kept _ c.d-1.given ∙ step_digit c.args.digits.now c.args.k l.i c.if-k-eq0.false),
     )
 
 pub returns : goal.returns
 returns c =
-    let st = c in
     let l = c.loop-i in
-    let e : l.i ≡ st.args.n = omega arith in
-    (rw e at l.invariant.1) ∙ vector_stored st.args.n _ st.requires.1
+    let e : l.i ≡ c.args.n = omega arith in
+    (rw e at l.invariant.1) ∙ vector_stored c.args.n _ c.requires.1

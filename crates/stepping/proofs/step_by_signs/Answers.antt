@@ -12,19 +12,17 @@ choose_and_list-count-requires c =
 
 pub listed_sums-requires : goal.listed_sums-requires
 listed_sums-requires c =
-    let d = c in
-    let p = d.requires in
-    may-add_listed p.0.may.passes.limits.order_most p.1 (digits-most p.0 (sym p.2)) d.choose_and_list-count.ensures.listed
+    let p = c.requires in
+    may-add_listed p.0.may.passes.limits.order_most p.1 (digits-most p.0 (sym p.2)) c.choose_and_list-count.ensures.listed
 
 pub returns : goal.returns
 returns c =
-    let d = c in
-    let p = d.requires in
+    let p = c.requires in
     let a = p.0 in
     let o = sym p.2 in
-    let e = d.choose_and_list-count.ensures in
+    let e = c.choose_and_list-count.ensures in
     let m = listed_summed p.0.may.passes.limits.order_most p.1 (digits-most a o) e.listed (new_row a o e.digits) c.listed_sums.ensures in
     record {
       step = stepped a o e.digits e.residuals e.stored m;
-      counted = new_counted a o e.digits d.args.times.now e.counted;
+      counted = new_counted a o e.digits c.args.times.now e.counted;
     }

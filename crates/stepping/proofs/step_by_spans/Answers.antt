@@ -8,19 +8,16 @@ choose-requires c = let p = c.requires in may_choose p.0 refl p.6
 
 pub column_sums-requires : goal.column_sums-requires
 column_sums-requires c =
-    let d = c in
-    let p = d.requires in
+    let p = c.requires in
     let l = p.0.may.passes.limits in
-    (l.order_least, l.order_most, p.5, may-sum p.0 refl d.choose.ensures.digits, p.1, p.2, p.3, p.4)
+    (l.order_least, l.order_most, p.5, may-sum p.0 refl c.choose.ensures.digits, p.1, p.2, p.3, p.4)
 
 pub returns : goal.returns
 returns c =
-    let s = c in
-    let d = s in
-    let q = s.column_sums.ensures in
-    let e = d.choose.ensures in
+    let q = c.column_sums.ensures in
+    let e = c.choose.ensures in
     record {
-      step = stepped d.requires.0 refl e.digits e.residuals e.stored q.1;
+      step = stepped c.requires.0 refl e.digits e.residuals e.stored q.1;
       size = q.0;
       counted = c.count_digits.ensures;
     }

@@ -17,14 +17,12 @@ loop-j-preserved c =
 pub returns-after-rows : goal.returns-after-rows
 returns-after-rows c =
     let r = c.rows in
-    let st = c in
-    r.invariant.1 ∙ (rw (to_z-of_z {w = w64} st.ranges.limit) at (search_over _ st.args.n r.i r.invariant.2 (omega arith)))
+    r.invariant.1 ∙ (rw (to_z-of_z {w = w64} c.ranges.limit) at (search_over _ c.args.n r.i r.invariant.2 (omega arith)))
 
 pub returns-then-room-lt0 : goal.returns-then-room-lt0
 returns-then-room-lt0 c =
     let l = c.loop-j in
     let r = c.rows in
-    let st = c in
-    rw (to_z-of_z {w = w64} st.ranges.limit) at
-    (search_found _ st.args.n r.i r.invariant.2 (omega arith)
-    (room_over _ _ c.room_after-room.result _ l.j l.invariant.2 c.room_after-arg-1.given c.room_after-room.type_inv c.room_after-room.ensures st.args.n (omega arith) c.if-room-lt0.true))
+    rw (to_z-of_z {w = w64} c.ranges.limit) at
+    (search_found _ c.args.n r.i r.invariant.2 (omega arith)
+    (room_over _ _ c.room_after-room.result _ l.j l.invariant.2 c.room_after-arg-1.given c.room_after-room.type_inv c.room_after-room.ensures c.args.n (omega arith) c.if-room-lt0.true))

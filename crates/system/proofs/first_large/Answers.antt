@@ -10,13 +10,11 @@ use Rattle.system.proofs.first_large.Goals as goal
 pub returns-then-above : goal.returns-then-above
 returns-then-above c =
     let r = c.loop-i in
-    let st = c in
     let a = c.above in
-    rw (to_z-of_z {w = w64} st.ranges.most) at
-    (search_found _ st.args.n r.i r.invariant.1 (omega arith) (above_said (to_z w64 (of_z w64 st.args.most)) st.args.z.now r.i a.result true c.above-arg-1.given a.ensures c.if-above.true))
+    rw (to_z-of_z {w = w64} c.ranges.most) at
+    (search_found _ c.args.n r.i r.invariant.1 (omega arith) (above_said (to_z w64 (of_z w64 c.args.most)) c.args.z.now r.i a.result true c.above-arg-1.given a.ensures c.if-above.true))
 
 pub returns : goal.returns
 returns c =
     let r = c.loop-i in
-    let st = c in
-    rw (to_z-of_z {w = w64} st.ranges.most) at (search_over _ st.args.n r.i r.invariant.1 (omega arith))
+    rw (to_z-of_z {w = w64} c.ranges.most) at (search_over _ c.args.n r.i r.invariant.1 (omega arith))

@@ -12,5 +12,4 @@ pub returns : goal.returns
 returns c =
     let bound-is : to_z w64 (of_z w64 c.largest_light.result) ≡ pos (largest_light c.args.h) =
     to_z-of_z {w = w64} (record { sfits = c.largest_light.type_inv }) ∙ c.largest_light.ensures in
-    let st = c in
-    c.first_heavy.ensures ∙ heavy_found st.args.h st.args.g.now st.requires _ bound-is
+    c.first_heavy.ensures ∙ heavy_found c.args.h c.args.g.now c.requires _ bound-is

@@ -29,5 +29,4 @@ pub returns : goal.returns
 returns c =
     let sized : Sizes c.pow2-r.result c.args.h.p c.pow2.result =
     rw (c.pow2-r.ensures, c.pow2.ensures) (sizes c.requires) in
-    let b = c in
-    to_z-of_z {w = w64} (record { sfits = c.to_signed.type_inv }) ∙ c.to_signed.ensures ∙ rw (one_by_one _ _ _ sized, b.pow2-r.ensures, b.pow2.ensures) refl
+    to_z-of_z {w = w64} (record { sfits = c.to_signed.type_inv }) ∙ c.to_signed.ensures ∙ rw (one_by_one _ _ _ sized, c.pow2-r.ensures, c.pow2.ensures) refl

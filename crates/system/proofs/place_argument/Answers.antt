@@ -12,6 +12,5 @@ loop-i-init c = (omega arith, sym (stores-zero _ _ _))
 
 pub loop-i-preserved : goal.loop-i-preserved
 loop-i-preserved c =
-    let st = c in
     let l = c.loop-i in
-    (omega arith, stores-more _ argument_place (λ t. to_z w64 (of_z w64 st.args.x)) l.i l.g _ l.invariant.1 refl)
+    (omega arith, stores-more _ argument_place (λ t. to_z w64 (of_z w64 c.args.x)) l.i l.g _ l.invariant.1 refl)

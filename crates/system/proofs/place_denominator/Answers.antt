@@ -15,7 +15,6 @@ loop-i-init c = (omega arith, sym (stores-zero _ _ _))
 pub loop-i-preserved : goal.loop-i-preserved
 loop-i-preserved c =
     let coefficient : Within (denominator c.args.n c.args.v.now (c.loop-i.i + 1)) (2 ^ 41) =
-    let st = c in
-    st.requires.1.small (st.args.n + (c.loop-i.i + 1)) (omega arith) in
+    c.requires.1.small (c.args.n + (c.loop-i.i + 1)) (omega arith) in
     let l = c.loop-i in
     (omega arith, stores-more _ denominator_place _ l.i l.g _ l.invariant.1 (negated_is coefficient))

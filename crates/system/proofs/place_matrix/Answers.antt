@@ -10,18 +10,15 @@ use Rattle.system.proofs.place_matrix.Goals as goal
 
 pub place_rows-requires : goal.place_rows-requires
 place_rows-requires c =
-    let st = c in
-    (st.requires.0.order_most, rw c.pow2.ensures (pow_mono {j = 40} st.requires.0.fraction_most), rw c.if-h-eq2.true at st.requires.1, st.requires.2)
+    (c.requires.0.order_most, rw c.pow2.ensures (pow_mono {j = 40} c.requires.0.fraction_most), rw c.if-h-eq2.true at c.requires.1, c.requires.2)
 
 pub returns-then-h-eq2 : goal.returns-then-h-eq2
 returns-then-h-eq2 c =
-    let st = c in
-    system_is st.args.h.kind st.args.h.n (unit st.args.h) st.args.v.now _ c.pow2.result c.if-h-eq2.true c.pow2.ensures c.place_rows.ensures
+    system_is c.args.h.kind c.args.h.n (unit c.args.h) c.args.v.now _ c.pow2.result c.if-h-eq2.true c.pow2.ensures c.place_rows.ensures
 
 pub returns-then-h-eq3 : goal.returns-then-h-eq3
 returns-then-h-eq3 c =
-    let st = c in
-    quotients_is st.args.h.kind st.args.h.n (unit st.args.h) st.args.v.now _ c.if-h-eq3.true c.place_quotients.ensures
+    quotients_is c.args.h.kind c.args.h.n (unit c.args.h) c.args.v.now _ c.if-h-eq3.true c.place_quotients.ensures
 
 pub returns-then-h-eq0 : goal.returns-then-h-eq0
 returns-then-h-eq0 c =

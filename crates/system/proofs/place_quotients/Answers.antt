@@ -10,10 +10,9 @@ loop-i-init c = (omega arith, c.requires.0, c.requires.3 ∙ quotients-none _ _)
 
 pub loop-i-preserved : goal.loop-i-preserved
 loop-i-preserved c =
-    let st = c in
     let l = c.loop-i in (
       omega arith,
       omega arith,
-      quotients-more _ _ l.i l.g _ _ l.invariant.0 (omega arith) l.invariant.2 (number_is (st.requires.2.small (3 * l.i - 2) (omega arith)))
-          (number_is (st.requires.2.small (3 * l.i) (omega arith))),
+      quotients-more _ _ l.i l.g _ _ l.invariant.0 (omega arith) l.invariant.2 (number_is (c.requires.2.small (3 * l.i - 2) (omega arith)))
+          (number_is (c.requires.2.small (3 * l.i) (omega arith))),
     )

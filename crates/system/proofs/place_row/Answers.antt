@@ -11,9 +11,8 @@ loop-j-init c = (omega arith, sym (stores-zero _ _ _))
 
 pub loop-j-preserved : goal.loop-j-preserved
 loop-j-preserved c =
-    let st = c in
     let l = c.loop-j in (
       omega arith,
-      stores-more _ (λ j. 16 * st.args.i + j) _ l.j l.g _ l.invariant.1
-          (entry_read st.args.u st.args.n st.args.v.now st.args.i l.j _ st.requires.3 st.requires.0 c.loop-j-test.true c.system_entry.type_inv c.system_entry.ensures),
+      stores-more _ (λ j. 16 * c.args.i + j) _ l.j l.g _ l.invariant.1
+          (entry_read c.args.u c.args.n c.args.v.now c.args.i l.j _ c.requires.3 c.requires.0 c.loop-j-test.true c.system_entry.type_inv c.system_entry.ensures),
     )

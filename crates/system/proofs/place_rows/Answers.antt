@@ -9,6 +9,5 @@ loop-i-init c = (omega arith, c.requires.3 ∙ rows_none c.args.n c.requires.0 (
 
 pub loop-i-preserved : goal.loop-i-preserved
 loop-i-preserved c =
-    let st = c in
     let l = c.loop-i in
-    (omega arith, rows_placed st.args.n st.requires.0 (system_entry st.args.u st.args.n st.args.v.now) l.i c.loop-i-test.true l.g _ l.invariant.1 c.place_row.ensures)
+    (omega arith, rows_placed c.args.n c.requires.0 (system_entry c.args.u c.args.n c.args.v.now) l.i c.loop-i-test.true l.g _ l.invariant.1 c.place_row.ensures)

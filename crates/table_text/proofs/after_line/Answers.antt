@@ -11,15 +11,13 @@ use Rattle.table_text.proofs.after_line.Goals as goal
 
 pub put_entry-n-requires : goal.put_entry-n-requires
 put_entry-n-requires c =
-    let s = c in
-    rw (to_z-of_z {w = w64} s.ranges.z) (omega (arith, short_line s.args.z s.requires.1))
+    rw (to_z-of_z {w = w64} c.ranges.z) (omega (arith, short_line c.args.z c.requires.1))
 
 pub returns-then-s-from : goal.returns-then-s-from
 returns-then-s-from c =
     let line_put : Put (replicate 32 0) 0 (entry_line c.args.z) c.put_entry-n.new.out c.put_entry-n.result =
     rw (to_z-of_z {w = w64} c.ranges.z) at c.put_entry-n.ensures in
-    let w = c in
-    let a = w.args in
+    let a = c.args in
     too_few a.s.now a.from a.z line_put (omega (arith, c.if-s-from.true))
 
 pub slice_bounds-same-end-2 : goal.slice_bounds-same-end-2
@@ -32,14 +30,12 @@ pub returns-then-same : goal.returns-then-same
 returns-then-same c =
     let line_put : Put (replicate 32 0) 0 (entry_line c.args.z) c.put_entry-n.new.out c.put_entry-n.result =
     rw (to_z-of_z {w = w64} c.ranges.z) at c.put_entry-n.ensures in
-    let w = c in
-    let a = w.args in
+    let a = c.args in
     same_line a.s.now a.from a.z line_put (c.same.ensures.0 c.if-same.true)
 
 pub returns-else-same : goal.returns-else-same
 returns-else-same c =
     let line_put : Put (replicate 32 0) 0 (entry_line c.args.z) c.put_entry-n.new.out c.put_entry-n.result =
     rw (to_z-of_z {w = w64} c.ranges.z) at c.put_entry-n.ensures in
-    let w = c in
-    let a = w.args in
+    let a = c.args in
     other_line a.s.now a.from a.z line_put c.if-same.false c.same.ensures.1

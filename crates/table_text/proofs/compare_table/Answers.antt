@@ -25,8 +25,7 @@ returns-then-end-eq0 c =
     let entry : to_z w64 (of_z w64 c.widen.result) ≡ at selection_table c.loop-k.k =
     let l = c in
     entry_read l.loop-k.k (omega arith) l.table-t.result c.widen.result l.table-t.ensures c.widen.ensures in
-    let w = c in
-    let l = w in
+    let l = c in
     other_agree l.args.s.now l.loop-k.invariant (omega arith) entry c.after_line-end.ensures c.if-end-eq0.true
 
 pub loop-k-preserved : goal.loop-k-preserved
@@ -34,9 +33,8 @@ loop-k-preserved c =
     let entry : to_z w64 (of_z w64 c.widen.result) ≡ at selection_table c.loop-k.k =
     let l = c in
     entry_read l.loop-k.k (omega arith) l.table-t.result c.widen.result l.table-t.ensures c.widen.ensures in
-    let w = c in
-    let l = w in
+    let l = c in
     next_agreed l.args.s.now l.loop-k.invariant (omega arith) entry c.after_line-end.ensures c.if-end-eq0.false
 
 pub returns : goal.returns
-returns c = let l = c in all_agree l.args.s.now l.loop-k.invariant (omega arith)
+returns c = all_agree c.args.s.now c.loop-k.invariant (omega arith)

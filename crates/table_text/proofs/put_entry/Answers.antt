@@ -7,13 +7,9 @@ use Rattle.table_text.proofs.put_entry.Goals as goal
 
 pub put_byte-requires : goal.put_byte-requires
 put_byte-requires c =
-    let n = c in
-    let s = n in
-    let p = rw (to_z-of_z {w = w64} s.ranges.z) at n.put_signed-end.ensures in
-    omega (arith, s.requires, length-line s.args.z, p.ends, n.put_signed-end.auto.out)
+    let p = rw (to_z-of_z {w = w64} c.ranges.z) at c.put_signed-end.ensures in
+    omega (arith, c.requires, length-line c.args.z, p.ends, c.put_signed-end.auto.out)
 
 pub returns : goal.returns
 returns c =
-    let n = c in
-    let s = n in
-    put-line s.args.z (rw (to_z-of_z {w = w64} s.ranges.z) at n.put_signed-end.ensures) c.put_byte.ensures
+    put-line c.args.z (rw (to_z-of_z {w = w64} c.ranges.z) at c.put_signed-end.ensures) c.put_byte.ensures

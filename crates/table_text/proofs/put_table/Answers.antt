@@ -10,17 +10,14 @@ loop-k-init c = (omega arith, refl, lines_start)
 pub put_entry-end-requires : goal.put_entry-end-requires
 put_entry-end-requires c =
     let n = c.nearest-z in
-    let l = c in
-    line-room l.loop-k.k l.loop-k.invariant.2 (omega arith) (entry-made l.loop-k.k (omega arith) n.result n.ensures) l.loop-k.invariant.1 l.requires
+    line-room c.loop-k.k c.loop-k.invariant.2 (omega arith) (entry-made c.loop-k.k (omega arith) n.result n.ensures) c.loop-k.invariant.1 c.requires
 
 pub loop-k-preserved : goal.loop-k-preserved
 loop-k-preserved c =
-    let p = c in
-    let n = p.nearest-z in
-    let l = p in (
+    let n = c.nearest-z in (
       omega arith,
-      p.put_entry-end.auto.out ∙ l.loop-k.invariant.1,
-      lines_next l.loop-k.k l.loop-k.invariant.2 (omega arith) (entry-made l.loop-k.k (omega arith) n.result n.ensures) p.put_entry-end.ensures,
+      c.put_entry-end.auto.out ∙ c.loop-k.invariant.1,
+      lines_next c.loop-k.k c.loop-k.invariant.2 (omega arith) (entry-made c.loop-k.k (omega arith) n.result n.ensures) c.put_entry-end.ensures,
     )
 
 pub returns : goal.returns

@@ -9,7 +9,5 @@ returns-then-out-lt-TABLE_ROOM c = let both = table-refused c.args.out.now (omeg
 
 pub returns : goal.returns
 returns c =
-    let p = c in
-    let e = p in
-    let both = table-accepted e.args.out.now (omega (arith, e.if-out-lt-TABLE_ROOM.false)) p.put_table.ensures in
+    let both = table-accepted c.args.out.now (omega (arith, c.if-out-lt-TABLE_ROOM.false)) c.put_table.ensures in
     record { answer = both.0; buffer = both.1 }

@@ -6,5 +6,4 @@ use Rattle.text.proofs.put_item.Goals as goal
 
 pub returns : goal.returns
 returns c =
-    let b = c in
-    put_then b.put_byte-from.ensures (rw (to_z-of_z {w = w64} b.ranges.z) at c.put_signed.ensures)
+    put_then c.put_byte-from.ensures (rw (to_z-of_z {w = w64} c.ranges.z) at c.put_signed.ensures)

@@ -14,8 +14,7 @@ put_byte-from-requires c =
     rw (to_z-of_z {w = w64} c.ranges.z) at c.magnitude-n.ensures in
     let negative : lt_z c.args.z (pos 0) ≡ true =
     rw (to_z-of_z {w = w64} c.ranges.z) at c.if-z-lt0.true in
-    let s = c in
-    sign_room s.args.out.now s.args.at s.args.z _ size negative s.requires
+    sign_room c.args.out.now c.args.at c.args.z _ size negative c.requires
 
 pub put_decimal-requires : goal.put_decimal-requires
 put_decimal-requires c =
@@ -23,9 +22,7 @@ put_decimal-requires c =
     rw (to_z-of_z {w = w64} c.ranges.z) at c.magnitude-n.ensures in
     let negative : lt_z c.args.z (pos 0) ≡ true =
     rw (to_z-of_z {w = w64} c.ranges.z) at c.if-z-lt0.true in
-    let b = c in
-    let s = b in
-    past_sign_room s.args.out.now s.args.at s.args.z _ size negative s.requires b.put_byte-from.auto.out b.put_byte-from.ensures
+    past_sign_room c.args.out.now c.args.at c.args.z _ size negative c.requires c.put_byte-from.auto.out c.put_byte-from.ensures
 
 pub returns-then-z-lt0 : goal.returns-then-z-lt0
 returns-then-z-lt0 c =
@@ -33,10 +30,7 @@ returns-then-z-lt0 c =
     rw (to_z-of_z {w = w64} c.ranges.z) at c.magnitude-n.ensures in
     let negative : lt_z c.args.z (pos 0) ≡ true =
     rw (to_z-of_z {w = w64} c.ranges.z) at c.if-z-lt0.true in
-    let d = c in
-    let b = d in
-    let s = b in
-    put_negative s.args.out.now s.args.at s.args.z _ size negative b.put_byte-from.ensures d.put_decimal.ensures
+    put_negative c.args.out.now c.args.at c.args.z _ size negative c.put_byte-from.ensures c.put_decimal.ensures
 
 pub put_decimal-requires-2 : goal.put_decimal-requires-2
 put_decimal-requires-2 c =
@@ -44,8 +38,7 @@ put_decimal-requires-2 c =
     rw (to_z-of_z {w = w64} c.ranges.z) at c.magnitude-n.ensures in
     let nonnegative : lt_z c.args.z (pos 0) ≡ false =
     rw (to_z-of_z {w = w64} c.ranges.z) at c.if-z-lt0.false in
-    let s = c in
-    nonnegative_room s.args.out.now s.args.at s.args.z _ size nonnegative s.requires
+    nonnegative_room c.args.out.now c.args.at c.args.z _ size nonnegative c.requires
 
 pub returns : goal.returns
 returns c =
@@ -53,6 +46,4 @@ returns c =
     rw (to_z-of_z {w = w64} c.ranges.z) at c.magnitude-n.ensures in
     let nonnegative : lt_z c.args.z (pos 0) ≡ false =
     rw (to_z-of_z {w = w64} c.ranges.z) at c.if-z-lt0.false in
-    let d = c in
-    let s = d in
-    put_nonnegative s.args.out.now s.args.at s.args.z _ size nonnegative d.put_decimal-2.ensures
+    put_nonnegative c.args.out.now c.args.at c.args.z _ size nonnegative c.put_decimal-2.ensures

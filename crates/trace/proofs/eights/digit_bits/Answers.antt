@@ -6,5 +6,4 @@ use Rattle.trace.proofs.eights.digit_bits.Goals as goal
 
 pub returns : goal.returns
 returns c =
-    let w = c in
-    digit_bits_are w.args.z w.widen.result w.ranges.z.sfits (w.widen.ensures ∙ i8_kept _ w.ranges.z.sfits) c.to_unsigned.result c.to_unsigned.ensures
+    digit_bits_are c.args.z c.widen.result c.ranges.z.sfits (c.widen.ensures ∙ i8_kept _ c.ranges.z.sfits) c.to_unsigned.result c.to_unsigned.ensures

@@ -8,6 +8,4 @@ use Rattle.trace.proofs.eights.digit_of_byte.Goals as goal
 
 pub returns : goal.returns
 returns c =
-    let w = c in
-    let s = w in
-    i8_kept c.narrow.result c.narrow.type_inv ∙ c.narrow.ensures ∙ lowered_is s.args.u (s.args.u % 32) (omega arith) s.requires w.to_signed.result w.to_signed.ensures
+    i8_kept c.narrow.result c.narrow.type_inv ∙ c.narrow.ensures ∙ lowered_is c.args.u (c.args.u % 32) (omega arith) c.requires c.to_signed.result c.to_signed.ensures

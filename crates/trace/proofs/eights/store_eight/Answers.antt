@@ -15,9 +15,8 @@ loop-x-init c = (omega arith, refl)
 pub loop-x-preserved : goal.loop-x-preserved
 loop-x-preserved c =
     let l = c.loop-x in
-    let w = c in
-    let a = w.args in (
+    let a = c.args in (
       omega arith,
       rw (i8_kept c.digit_of_byte.result c.digit_of_byte.type_inv) (store_turn a.d.now l.d a.at l.x (digit_in 8 a.u) c.digit_of_byte.result l.invariant.1
-          (c.digit_of_byte.ensures ∙ ap (decode 5) (byte-field w.eight_bytes-y.ensures l.x (omega arith)))),
+          (c.digit_of_byte.ensures ∙ ap (decode 5) (byte-field c.eight_bytes-y.ensures l.x (omega arith)))),
     )

@@ -13,16 +13,14 @@ read_step-requires c =
     place_room c.args.n c.args.k c.loop-j.j (omega arith) in
     let small : c.args.n * c.loop-j.j ≤ 960 =
     digit_count c.args.n c.loop-j.j c.requires.2 (omega arith) in
-    let t = c in
-    let l = t.loop-j in
-    (omega (arith, room), omega arith, omega arith, omega arith, omega (arith, small), step_clear l.d _ t.args.n l.j (omega arith) l.invariant.2)
+    let l = c.loop-j in
+    (omega (arith, room), omega arith, omega arith, omega arith, omega (arith, small), step_clear l.d _ c.args.n l.j (omega arith) l.invariant.2)
 
 pub loop-j-preserved : goal.loop-j-preserved
 loop-j-preserved c =
     let l = c.loop-j in
-    let s = c in
-    let a = s.args in (
+    let a = c.args in (
       omega arith,
       place_next 6 a.n l.j l.p l.invariant.1,
-      digits_read_turn a.b.now l.d _ a.n a.k l.j l.p s.requires.2 s.requires.3 (omega arith) l.invariant.1 l.invariant.2 c.read_step.ensures,
+      digits_read_turn a.b.now l.d _ a.n a.k l.j l.p c.requires.2 c.requires.3 (omega arith) l.invariant.1 l.invariant.2 c.read_step.ensures,
     )

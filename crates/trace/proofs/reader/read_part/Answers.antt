@@ -17,17 +17,11 @@ returns-then-c-gt0 c =
 
 pub returns-then-beyond : goal.returns-then-beyond
 returns-then-beyond c =
-    let g = c in
-    let d = g in
-    let r = d in
     c.no_record-then-beyond.ensures
-    ∙ part_beyond r.args.h r.args.b.now r.read_field-k.result r.size_refusal-c.result r.read_field-k.ensures r.size_refusal-c.ensures
-    d.read_digits-digits.result g.beyond.result d.if-c-gt0.false d.read_digits-digits.ensures g.beyond.ensures c.if-beyond.true
+    ∙ part_beyond c.args.h c.args.b.now c.read_field-k.result c.size_refusal-c.result c.read_field-k.ensures c.size_refusal-c.ensures
+    c.read_digits-digits.result c.beyond.result c.if-c-gt0.false c.read_digits-digits.ensures c.beyond.ensures c.if-beyond.true
 
 pub returns : goal.returns
 returns c =
-    let g = c in
-    let d = g in
-    let r = d in
-    part_read r.args.h r.args.b.now r.read_field-k.result r.size_refusal-c.result r.read_field-k.ensures r.size_refusal-c.ensures
-    d.read_digits-digits.result g.beyond.result d.if-c-gt0.false d.read_digits-digits.ensures g.beyond.ensures c.if-beyond.false
+    part_read c.args.h c.args.b.now c.read_field-k.result c.size_refusal-c.result c.read_field-k.ensures c.size_refusal-c.ensures
+    c.read_digits-digits.result c.beyond.result c.if-c-gt0.false c.read_digits-digits.ensures c.beyond.ensures c.if-beyond.false

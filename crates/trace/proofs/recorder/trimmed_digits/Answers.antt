@@ -9,6 +9,5 @@ loop-j-init c = (omega arith, digit_array-none _ _)
 pub loop-j-preserved : goal.loop-j-preserved
 loop-j-preserved c =
     let l = c.loop-j in
-    let s = c in
-    let a = s.args in
-    (omega arith, trimmed_turn a.d.now l.t _ a.n a.k l.j s.requires.0 s.requires.1 (omega arith) l.invariant.1 c.copy_step.ensures)
+    let a = c.args in
+    (omega arith, trimmed_turn a.d.now l.t _ a.n a.k l.j c.requires.0 c.requires.1 (omega arith) l.invariant.1 c.copy_step.ensures)

@@ -16,10 +16,9 @@ loop-j-preserved c =
     let room : c.args.n * c.loop-j.j + 16 ≤ 960 =
     in_order-room c.args.n c.loop-j.j c.requires.1 (omega arith) in
     let l = c.loop-j in
-    let s = c in
-    let a = s.args in (
+    let a = c.args in (
       omega arith,
       omega (arith, mul-suc a.n l.j, l.invariant.1),
       in_order-length l.e _ l.to (digits_from a.d.now (16 * l.j) 16) c.copy_step.ensures l.invariant.2,
-      in_order_turn a.d.now l.e _ a.n l.j l.to s.requires.0 s.requires.1 (omega (arith, room, l.invariant.2)) l.invariant.1 l.invariant.3 c.copy_step.ensures,
+      in_order_turn a.d.now l.e _ a.n l.j l.to c.requires.0 c.requires.1 (omega (arith, room, l.invariant.2)) l.invariant.1 l.invariant.3 c.copy_step.ensures,
     )

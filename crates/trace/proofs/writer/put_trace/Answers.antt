@@ -27,10 +27,6 @@ write_field-requires c =
 
 pub returns : goal.returns
 returns c =
-    let d = c in
-    let w = d in
-    let n = w in
-    let s = n in
-    let a = s.args in
-    trace-put a.h a.k a.d.now a.out.now _ _ n.header_number.result (slice_bytes a.out.now n.slice_known-1.given) (fit_head s.requires.0 s.requires.1)
-    n.header_number.ensures w.write_field.ensures d.write_digits.ensures
+    let a = c.args in
+    trace-put a.h a.k a.d.now a.out.now _ _ c.header_number.result (slice_bytes a.out.now c.slice_known-1.given) (fit_head c.requires.0 c.requires.1)
+    c.header_number.ensures c.write_field.ensures c.write_digits.ensures

@@ -9,9 +9,8 @@ use Rattle.trace.proofs.writer.write_digits.Goals as goal
 
 pub write_list-requires : goal.write_list-requires
 write_list-requires c =
-    let s = c in
-    let a = s.args in (
+    let a = c.args in (
       omega arith,
-      digit_count a.n a.k s.requires.2 s.requires.3,
-      list_five c.digits_in_order-e.result (digit_list a.n a.k a.d.now) (a.n * a.k) c.digits_in_order-e.ensures (list-fits s.requires.4 s.requires.1),
+      digit_count a.n a.k c.requires.2 c.requires.3,
+      list_five c.digits_in_order-e.result (digit_list a.n a.k a.d.now) (a.n * a.k) c.digits_in_order-e.ensures (list-fits c.requires.4 c.requires.1),
     )

@@ -13,19 +13,15 @@ pub write_field-requires : goal.write_field-requires
 write_field-requires c =
     let next_fits : DigitsFit c.args.e.now (8 * c.loop-i.i) 8 =
     fits-inside c.requires.2 (8 * c.loop-i.i) 8 (omega arith) in
-    let t = c in
-    (omega (arith, t.loop-i.invariant.3), omega arith, omega arith, rw c.digits_number.ensures (digits-number-fits next_fits 8 (omega arith)))
+    (omega (arith, c.loop-i.invariant.3), omega arith, omega arith, rw c.digits_number.ensures (digits-number-fits next_fits 8 (omega arith)))
 
 pub loop-i-preserved : goal.loop-i-preserved
 loop-i-preserved c =
-    let w = c in
-    let t = w in
-    let l = t.loop-i in
-    let s = t in
-    let a = s.args in (
+    let l = c.loop-i in
+    let a = c.args in (
       omega arith,
       omega arith,
-      eights_turn a.e.now a.out.now l.out _ a.g l.i l.q w.digits_number.result s.requires.2 (omega arith) l.invariant.1 l.invariant.2
-          w.digits_number.ensures w.write_field.ensures,
-      w.write_field.auto.s ∙ l.invariant.3,
+      eights_turn a.e.now a.out.now l.out _ a.g l.i l.q c.digits_number.result c.requires.2 (omega arith) l.invariant.1 l.invariant.2
+          c.digits_number.ensures c.write_field.ensures,
+      c.write_field.auto.s ∙ l.invariant.3,
     )

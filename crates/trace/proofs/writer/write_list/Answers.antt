@@ -7,15 +7,10 @@ use Rattle.trace.proofs.writer.write_list.Goals as goal
 
 pub write_field-requires : goal.write_field-requires
 write_field-requires c =
-    let s = c in
-    let m = s.args.m in
-    (omega (arith, c.write_eights.auto.out), omega arith, omega arith, rw c.digits_number.ensures (digits-number-fits (fits-inside s.requires.2 (8 * (m / 8)) (m % 8) (omega arith)) (m % 8) (omega arith)))
+    let m = c.args.m in
+    (omega (arith, c.write_eights.auto.out), omega arith, omega arith, rw c.digits_number.ensures (digits-number-fits (fits-inside c.requires.2 (8 * (m / 8)) (m % 8) (omega arith)) (m % 8) (omega arith)))
 
 pub returns-then-c-gt0 : goal.returns-then-c-gt0
 returns-then-c-gt0 c =
-    let w = c in
-    let g = w in
-    let e = g in
-    let s = e in
-    let a = s.args in
-    rest_put a.e.now a.out.now _ _ a.m g.digits_number.result s.requires.2 e.write_eights.ensures g.digits_number.ensures w.write_field.ensures
+    let a = c.args in
+    rest_put a.e.now a.out.now _ _ a.m c.digits_number.result c.requires.2 c.write_eights.ensures c.digits_number.ensures c.write_field.ensures

@@ -8,32 +8,26 @@ use Rattle.trace.proofs.writer.write_trace.Goals as goal
 
 pub returns-then-c-gt0 : goal.returns-then-c-gt0
 returns-then-c-gt0 c =
-    let r = c in
-    let a = r.args in
-    let both = trace_answer-refused a.t a.out.now r.writer_refusal-c.result r.writer_refusal-c.ensures c.if-c-gt0.true in
+    let a = c.args in
+    let both = trace_answer-refused a.t a.out.now c.writer_refusal-c.result c.writer_refusal-c.ensures c.if-c-gt0.true in
     record { answer = both.0; buffer = both.1 }
 
 pub put_trace-requires : goal.put_trace-requires
 put_trace-requires c =
     let taken : ValidRecord c.args.t × (trace_length c.args.t.header c.args.t.k ≤ length c.args.out.now) =
-    let r = c in
-    writer_takes r.args.t r.args.out.now r.writer_refusal-c.result r.writer_refusal-c.ensures c.if-c-gt0.false in
+    writer_takes c.args.t c.args.out.now c.writer_refusal-c.result c.writer_refusal-c.ensures c.if-c-gt0.false in
     let v = taken in
     (v.0.limits, record_steps_most v.0, steps-fit v.0, v.1)
 
 pub trace_length-requires : goal.trace_length-requires
 trace_length-requires c =
     let taken : ValidRecord c.args.t × (trace_length c.args.t.header c.args.t.k ≤ length c.args.out.now) =
-    let r = c in
-    writer_takes r.args.t r.args.out.now r.writer_refusal-c.result r.writer_refusal-c.ensures c.if-c-gt0.false in
+    writer_takes c.args.t c.args.out.now c.writer_refusal-c.result c.writer_refusal-c.ensures c.if-c-gt0.false in
     let v = taken in
     (v.0.limits, record_steps_most v.0)
 
 pub returns : goal.returns
 returns c =
-    let p = c in
-    let e = p in
-    let r = e in
-    let a = r.args in
-    let both = trace_answer-written a.t a.out.now r.writer_refusal-c.result r.writer_refusal-c.ensures c.trace_length.result _ e.if-c-gt0.false c.trace_length.ensures p.put_trace.ensures in
+    let a = c.args in
+    let both = trace_answer-written a.t a.out.now c.writer_refusal-c.result c.writer_refusal-c.ensures c.trace_length.result _ c.if-c-gt0.false c.trace_length.ensures c.put_trace.ensures in
     record { answer = both.0; buffer = both.1 }
