@@ -6,7 +6,7 @@
 // with the recurrence.
 #![tactic(auto)]
 
-ghost use Rattle.std.specs.Prelude.{◌≡◌, true, ◌+◌, ◌≤◌, pos, length, get_or, replicate};
+ghost use Rattle.std.specs.Prelude.{◌≡◌, ◌≢◌, true, ◌+◌, ◌-◌, ◌*◌, ◌≤◌, pos, length, get_or, replicate};
 ghost use Rattle.integers.specs.Flat.{at, flat_vector};
 ghost use Rattle.additions.specs.Additions.{nonzero};
 ghost use Rattle.selection.specs.Selection.{selection_table};
@@ -262,7 +262,9 @@ fn run_by_signs(
 // column. The columns of a curve have few entries.
 fn signs_pay(g: &[i64; ENTRIES], n: usize, p: usize, made: usize) -> bool
     requires { (n ≤ 16) × (made ≤ 60) }
-    ensures { result ≡ true → p ≡ 1 }
+    ensures radix_2 { result ≡ true → p ≡ 1 }
+    ensures pays { p ≡ 1 → 4 ≤ n → 64 ≤ made * n →
+        get_or g.now (n - 1) (pos 0) ≢ pos 0 → get_or g.now (16 + (n - 1)) (pos 0) ≢ pos 0 → result ≡ true }
 {
     if p != 1 {
         return false;
