@@ -39,10 +39,8 @@ fn rewrite(t: Record, more: u64, out: &mut [u8]) -> usize
     ensures { Rewrites t more out.old result out.new }
 {
     let w = trace::write_trace(t, out);
-    let mut i: u64 = 0;
-    while i < more {
+    for _i in 0..more {
         trace::write_trace(t, out);
-        i += 1;
     }
     w.length
 }

@@ -37,10 +37,8 @@ pub fn read_bytes(s: &[u8], at: usize, n: usize) -> u64
     ensures { result ≡ number8 (take n (drop at s.now)) }
 {
     let mut x: u64 = 0;
-    let mut j = 0;
-    while j < n {
+    for j in 0..n {
         x = x * 256 + from_byte(s[at + j]);
-        j += 1;
     }
     x
 }
@@ -77,10 +75,8 @@ pub fn write_bytes(s: &mut [u8], at: usize, n: usize, x: u64)
     requires { (at + n ≤ length s.old) × (n ≤ 8) }
     ensures { s.new ≡ take at s.old ++ octets n x ++ drop (at + n) s.old }
 {
-    let mut j = 0;
-    while j < n {
+    for j in 0..n {
         s[at + j] = to_byte((x >> ((8 * (n - 1 - j)) as u64)) % 256);
-        j += 1;
     }
 }
 
@@ -164,11 +160,9 @@ pub fn read_numbers(s: &[u8], at: usize, w: usize, n: usize, out: &mut [i64])
     ensures { out.new ≡ numbers s.now at w n ++ drop n out.old }
 {
     let mut p = at;
-    let mut i = 0;
-    while i < n {
+    for i in 0..n {
         out[i] = decode(read_field(s, p, w), w);
         p += w;
-        i += 1;
     }
 }
 
@@ -178,11 +172,9 @@ pub fn write_numbers(dst: &mut [u8], at: usize, w: usize, nums: &[i64])
     ensures { dst.new ≡ put dst.old at (each w (map (encode w) nums.now)) }
 {
     let mut p = at;
-    let mut i = 0;
-    while i < nums.len() {
-        write_field(dst, p, w, encode(nums[i], w));
+    for z in nums {
+        write_field(dst, p, w, encode(*z, w));
         p += w;
-        i += 1;
     }
 }
 

@@ -4,13 +4,12 @@ use mathlib.Core.Path.{◌≡◌, refl, sym, ap, ap₂, ◌∙◌}
 use mathlib.Core.List.{List, [], ◌∷◌, ◌++◌, append_assoc, append-nil}
 use mathlib.Core.Logic.{◌⊎◌, inl, inr}
 use Prim.Native.Nat.{ℕ, zero, suc, ◌+◌, ◌*◌, ◌-◌, ◌<◌, ◌≤◌}
-use native.Mathlib.Numerals.{add-one}
 use native.Mathlib.Omega.{arith}
 use borrow.Author.Tests.{le-ltb}
 use lib.Dec.{nltb→le}
 use lib.IntN.{ℤ, pos}
 use lib.ListN.{length, take, drop, get_or, length-append, length-drop, take-append-drop, drop_of_length-le, get_or-append}
-use lib.Seq.{length-take-le, take_all, take-length, drop-cons, take_at, drop_at, drop-drop, get_or-append-add, get_or-drop}
+use lib.Seq.{length-take-le, take_all, take-length, take_at, drop_at, drop-drop, get_or-append-add, get_or-drop}
 use Rattle.integers.specs.Flat.{at}
 use Rattle.integers.proofs.Flat.{length-list_from}
 use Rattle.integers.proofs.Maximum.{le_or_lt}
@@ -145,16 +144,13 @@ room_part : (kind value : ℕ) (given : List ℤ) → room_of (call_of kind valu
 room_part zero value given = omega arith
 room_part (suc kind) value given = omega (arith, simp length-append at (ap length (take-append-drop value given)))
 
-calls-next : (words : List ℕ) (i : ℕ) (given : List ℤ) → 2 ≤ length words - i
-    → calls_of (drop i words) given
-    ≡ call_of (get_or words i 0) (get_or words (i + 1) 0) given ∷ calls_of (drop (i + 2) words) (drop (room_of (call_of (get_or words i 0) (get_or words (i + 1) 0) given)) given)
+calls-next : (words : List ℕ) (given : List ℤ) → 2 ≤ length words
+    → calls_of words given
+    ≡ call_of (get_or words 0 0) (get_or words 1 0) given ∷ calls_of (drop 2 words) (drop (room_of (call_of (get_or words 0 0) (get_or words 1 0) given)) given)
 unfolding calls_of
-calls-next words i given h =
-    let e : drop i words ≡ get_or words i 0 ∷ drop (suc i) words = drop-cons words i 0 (omega arith) in
-    let f : drop (suc i) words ≡ get_or words (suc i) 0 ∷ drop (suc (suc i)) words = drop-cons words (suc i) 0 (omega arith) in
-    let a : i + 1 ≡ suc i = add-one i in
-    let b : i + 2 ≡ suc (suc i) = omega arith in
-    rw (a, b, e, f)
+calls-next [] given h = absurd (omega arith)
+calls-next (kind ∷ []) given h = absurd (omega arith)
+calls-next (kind ∷ value ∷ words) given h = refl
 
 calls_last : (words : List ℕ) (given : List ℤ) → length words < 2 → calls_of words given ≡ []
 unfolding calls_of
@@ -173,24 +169,23 @@ calls-made s cs = record { state = run s cs; additions = calls_additions s cs }
 
 -- what is left to do from here gives what the whole gives from the start, and counts what the whole counts
 -- beyond what is counted so far
-pub record Turn (s : State) (words : List ℕ) (given final : List ℤ) (t : State) (counted from i : ℕ) : Type 0 where
-  pub passed : i ≤ length words
+pub record Turn (s : State) (words : List ℕ) (given final : List ℤ) (t : State) (counted from : ℕ) (rest : List ℕ) : Type 0 where
   pub within : from ≤ length final
   pub room : length final ≡ length given
-  pub state : run t (calls_of (drop i words) (drop from final)) ≡ run s (calls_of words given)
-  pub additions : counted + calls_additions t (calls_of (drop i words) (drop from final)) ≡ calls_additions s (calls_of words given)
-  pub list : take from final ++ list_after t (calls_of (drop i words) (drop from final)) (drop from final) ≡ list_after s (calls_of words given) given
+  pub state : run t (calls_of rest (drop from final)) ≡ run s (calls_of words given)
+  pub additions : counted + calls_additions t (calls_of rest (drop from final)) ≡ calls_additions s (calls_of words given)
+  pub list : take from final ++ list_after t (calls_of rest (drop from final)) (drop from final) ≡ list_after s (calls_of words given) given
 
 module _ (s : State) (words : List ℕ) (given : List ℤ) where
-  pub turn_first : Turn s words given given s 0 0 0
-  turn_first = record { passed = omega arith; within = omega arith; room = refl; state = refl; additions = omega arith; list = refl }
+  pub turn_first : Turn s words given given s 0 0 words
+  turn_first = record { within = omega arith; room = refl; state = refl; additions = omega arith; list = refl }
 
-  module _ (final : List ℤ) (t : State) (counted from i : ℕ) (turn : Turn s words given final t counted from i) where
-    pub turn_last : length words - i < 2
+  module _ (final : List ℤ) (t : State) (counted from : ℕ) (rest : List ℕ) (turn : Turn s words given final t counted from rest) where
+    pub turn_last : length rest < 2
         → (record { state = t; additions = counted } ≡ calls-made s (calls_of words given)) × (final ≡ list_after s (calls_of words given) given)
     unfolding run calls_additions parts_after room_of_all
     turn_last h =
-        let e : calls_of (drop i words) (drop from final) ≡ [] = calls_last (drop i words) (drop from final) (rw length-drop h) in
+        let e : calls_of rest (drop from final) ≡ [] = calls_last rest (drop from final) h in
         let et : t ≡ run s (calls_of words given) = rw e at turn.state in
         let ec : counted ≡ calls_additions s (calls_of words given) = omega (arith, rw e at turn.additions) in
         (ap₂ (λ (t : State) (a : ℕ). record { state = t; additions = a }) et ec, sym (take-append-drop from final) ∙ (rw e at turn.list))
@@ -200,13 +195,13 @@ module _ (s : State) (words : List ℕ) (given : List ℤ) where
     ahead = drop from final
 
     abbrev call_on : List ℤ → Call
-    call_on list = call_of (get_or words i 0) (get_or words (i + 1) 0) list
+    call_on list = call_of (get_or rest 0 0) (get_or rest 1 0) list
 
     abbrev call : Call
     call = call_on ahead
 
     abbrev calls : List Call
-    calls = calls_of (drop (i + 2) words) (drop (room_of call) ahead)
+    calls = calls_of (drop 2 rest) (drop (room_of call) ahead)
 
     -- the list up to the end of the call's part, after it
     abbrev done : List ℤ
@@ -216,18 +211,17 @@ module _ (s : State) (words : List ℕ) (given : List ℤ) where
     done_length = rw (length-append, length-take-le from final turn.within, length_part t call)
 
     next-within : from + room_of call ≤ length final
-    next-within = omega (arith, room_part (get_or words i 0) (get_or words (i + 1) 0) ahead, length-drop from final)
+    next-within = omega (arith, room_part (get_or rest 0 0) (get_or rest 1 0) ahead, length-drop from final)
 
-    next_turn : 2 ≤ length words - i → Turn s words given (done ++ drop (room_of call) ahead) (state_after t call) (counted + call_additions t call) (from + room_of call) (i + 2)
+    next_turn : 2 ≤ length rest → Turn s words given (done ++ drop (room_of call) ahead) (state_after t call) (counted + call_additions t call) (from + room_of call) (drop 2 rest)
     unfolding run calls_additions
     next_turn h =
-        let e = calls-next words i ahead h in
+        let e = calls-next rest ahead h in
         let d : drop (from + room_of call) (done ++ drop (room_of call) ahead) ≡ drop (room_of call) ahead = drop_at done (drop (room_of call) ahead) _ done_length in
         let u : take (from + room_of call) (done ++ drop (room_of call) ahead) ≡ done = take_at done (drop (room_of call) ahead) _ done_length in
         let l : length (done ++ drop (room_of call) ahead) ≡ length final =
         rw (length-append, done_length, length-drop, length-drop) (omega (arith, next-within)) in
         record {
-          passed = omega arith;
           within = rw l next-within;
           room = l ∙ turn.room;
           state = rw d (rw e at turn.state);
@@ -240,16 +234,17 @@ module _ (s : State) (words : List ℕ) (given : List ℤ) where
     abbrev lent : List ℤ
     lent = take (length final - from) ahead
 
-    pub turn_next : 2 ≤ length words - i → (m : Made) (part : List ℤ) → m ≡ call_made t (call_on lent)
+    pub turn_next : 2 ≤ length rest → (m : Made) (part : List ℤ) → m ≡ call_made t (call_on lent)
         → part ≡ part_after t (call_on lent) ++ drop (room_of (call_on lent)) lent
-        → Turn s words given (take from final ++ (part ++ drop (length final - from) ahead)) m.state (counted + m.additions) (from + m.room) (i + 2)
+        → Turn s words given (take from final ++ (part ++ drop (length final - from) ahead)) m.state (counted + m.additions) (from + m.room) (take (length rest - 2) (drop 2 rest))
     turn_next h m part em ep =
         let l : length ahead ≤ length final - from = omega (arith, length-drop from final) in
         let e : lent ≡ ahead = take_all (length final - from) ahead l in
-        rw (em, ep, e, drop_of_length-le ahead l, append-nil, ← append_assoc (take from final) (part_after t call) (drop (room_of call) ahead)) (next_turn h)
+        let later : take (length rest - 2) (drop 2 rest) ≡ drop 2 rest = take_all (length rest - 2) (drop 2 rest) (omega (arith, length-drop 2 rest)) in
+        rw (em, ep, e, later, drop_of_length-le ahead l, append-nil, ← append_assoc (take from final) (part_after t call) (drop (room_of call) ahead)) (next_turn h)
 
     -- what is counted by the end of the call is far below 2^64
-    pub turn_counts : 2 ≤ length words - i → (m : Made) → m ≡ call_made t (call_on lent)
+    pub turn_counts : 2 ≤ length rest → (m : Made) → m ≡ call_made t (call_on lent)
         → first_refusal (state_checks s) ≡ 0 → counted + m.additions ≤ 15360
     turn_counts h m em e = omega (arith, (turn_next h m _ em refl).additions, additions-few s (calls_of words given) e)
 

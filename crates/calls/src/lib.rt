@@ -32,10 +32,8 @@ fn steps_allowed(list: &[u64], last: usize) -> usize
     ensures { result ≡ smaller last (budgets (advances list.now)) }
 {
     let mut made: usize = 0;
-    let mut i: usize = 0;
-    while i < list.len() {
-        made = made + evaluator::smaller(list[i], (last - made) as u64) as usize;
-        i += 1;
+    for budget in list {
+        made = made + evaluator::smaller(*budget, (last - made) as u64) as usize;
     }
     made
 }

@@ -59,14 +59,14 @@ fn make_calls(s: State, words: &[u64], list: &mut [i64]) -> AllMade
     let mut t = s;
     let mut additions: usize = 0;
     let mut place: usize = 0;
-    let mut i: usize = 0;
-    while 2 <= words.len() - i {
-        let m = make_call(t, words[i], words[i + 1], &mut list[place..]);
+    let mut rest = words;
+    while let [kind, value, later @ ..] = rest {
+        let m = make_call(t, *kind, *value, &mut list[place..]);
         let next = m.state;
         t = next;
         additions = additions + m.additions;
         place = place + m.room;
-        i += 2;
+        rest = later;
     }
     AllMade {
         state: t,

@@ -104,12 +104,10 @@ fn same_list(t: &Lines, place: usize, v: &[i64], n: usize) -> bool
     if v.len() < n || !says(t, place, n) {
         return false;
     }
-    let mut i: usize = 0;
-    while i < n {
+    for i in 0..n {
         if word(t, place + 1 + i) != v[i] {
             return false;
         }
-        i += 1;
     }
     true
 }
@@ -144,10 +142,8 @@ fn widened(x: u8) -> i64
 // The bytes of a trace as numbers with a sign.
 fn trace_words(b: &[u8; TRACE_BYTES]) -> [i64; TRACE_BYTES] {
     let mut out = [0i64; TRACE_BYTES];
-    let mut i: usize = 0;
-    while i < TRACE_BYTES {
+    for i in 0..TRACE_BYTES {
         out[i] = widened(b[i]);
-        i += 1;
     }
     out
 }
@@ -158,13 +154,11 @@ fn row_digits(d: &[i8; DIGITS], i: usize, k: usize) -> [i64; 60] {
     if 16 <= i {
         return out;
     }
-    let mut j: usize = 0;
-    while j < 60 {
+    for j in 0..60 {
         if k <= j {
             return out;
         }
         out[j] = integers::widen(d[16 * j + i]);
-        j += 1;
     }
     out
 }
@@ -178,14 +172,12 @@ fn past_same_digits(t: &Lines, place: usize, d: &[i8; DIGITS], n: usize, k: usiz
         return 0;
     }
     let mut p = place + 1;
-    let mut i: usize = 0;
-    while i < n {
+    for i in 0..n {
         let row = row_digits(d, i, k);
         if !same_list(t, p, &row, k) {
             return 0;
         }
         p = past(t, p);
-        i += 1;
     }
     p
 }
@@ -258,10 +250,8 @@ fn frame_bytes(t: &Lines, place: usize) -> [u8; FRAME_BYTES]
 {
     let n = size(t, place);
     let mut out = [0u8; FRAME_BYTES];
-    let mut i: usize = 0;
-    while i < n {
+    for i in 0..n {
         out[i] = byte(word(t, place + 1 + i));
-        i += 1;
     }
     out
 }
@@ -313,11 +303,9 @@ fn run_all(rt: &impl Print, t: &Lines, n: usize) -> io::Result<u64>
 {
     let mut differ: u64 = 0;
     let mut place: usize = 0;
-    let mut i: usize = 0;
-    while i < n {
+    for i in 0..n {
         differ += run(rt, t, place, i + 1)?;
         place = past(t, place);
-        i += 1;
     }
     Ok(differ)
 }

@@ -92,10 +92,8 @@ pub fn choose(
     ensures stored { digits.new ≡ stores digits.old (λ i. 16 * k + i) (digit_from r q p (2 ^ f) z.old s.now) n }
     ensures residuals { z.new ≡ filled (residual_from r q p (2 ^ f) z.old s.now) z.old n }
 {
-    let mut i: usize = 0;
-    while i < n {
+    for i in 0..n {
         choose_row(choices, s, z, new, digits, i, k, r, q, f, p);
-        i += 1;
     }
 }
 
@@ -123,13 +121,11 @@ pub fn choose_and_list(
     ensures listed { Listed n (digit_from 2 q 1 (2 ^ f) z.old s.now) list.new result }
 {
     let mut count: usize = 0;
-    let mut i: usize = 0;
-    while i < n {
+    for i in 0..n {
         let d = choose_row(choices, s, z, new, digits, i, k, 2, q, f, 1);
         times[i] = times[i] + counts::added(d);
         list[count] = signs::column_place(d, i);
         count = counts::counted(d, count);
-        i += 1;
     }
     count
 }

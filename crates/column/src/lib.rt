@@ -25,10 +25,8 @@ pub fn add_column(g: &[i64; ENTRIES], j: usize, lo: usize, hi: usize, d: i64, s:
     requires { MayAddColumn g.now j lo hi d s.old }
     ensures { s.new ≡ stores s.old (λ t. lo + t) (column_added g.now j lo d s.old) (hi - lo) }
 {
-    let mut i = lo;
-    while i < hi {
+    for i in lo..hi {
         s[i] = sum_after(s[i], g[16 * i + j], d);
-        i += 1;
     }
 }
 

@@ -48,10 +48,8 @@ pub fn first_times(digits: &[i8; DIGITS], k: usize) -> [u8; ROWS]
     ensures { Counts 16 (λ j. nonzero (digits_of digits.now k j)) result }
 {
     let mut t = [0u8; ROWS];
-    let mut j: usize = 0;
-    while j < ROWS {
+    for j in 0..ROWS {
         t[j] = added_after(digits, k, j);
-        j += 1;
     }
     t
 }
@@ -61,10 +59,8 @@ pub fn count_digits(d: &[i8; ROWS], n: usize, times: &mut [u8; ROWS])
     requires { (n ≤ 16) × MayCount n times.old }
     ensures { Counts n (λ j. get_or times.old j 0 + nonzero (at d.now j)) times.new }
 {
-    let mut j: usize = 0;
-    while j < n {
+    for j in 0..n {
         times[j] = times[j] + added(integers::widen(d[j]));
-        j += 1;
     }
 }
 
@@ -78,10 +74,8 @@ fn column_entries(g: &[i64; ENTRIES], j: usize, lo: usize, hi: usize, n: usize) 
         return 0;
     }
     let mut c = counted(g[16 * lo + j], 0);
-    let mut i = lo + 1;
-    while i < hi {
+    for i in lo + 1..hi {
         c = counted(g[16 * i + j], c);
-        i += 1;
     }
     c
 }
@@ -97,10 +91,8 @@ pub fn entries<'a>(
     requires { (n ≤ 16) × Starts n g.now starts.now × Ends n g.now ends.now × (length e.old ≡ 16) }
     ensures { Counts n (column_entries n g.now) e.new }
 {
-    let mut j: usize = 0;
-    while j < n {
+    for j in 0..n {
         e[j] = column_entries(g, j, starts[j], ends[j], n);
-        j += 1;
     }
 }
 
@@ -117,10 +109,8 @@ pub fn additions<'a>(
     ensures { result ≡ total n (λ j. (get_or t.now j 0 - nonzero (digits_of digits.now k j)) * get_or e.now j 0) }
 {
     let mut a: usize = 0;
-    let mut j: usize = 0;
-    while j < n {
+    for j in 0..n {
         a = a + ((t[j] - added_after(digits, k, j)) as usize) * e[j];
-        j += 1;
     }
     a
 }

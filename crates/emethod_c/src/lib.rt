@@ -157,10 +157,8 @@ fn put_header_words(h: Header, k: usize, words: &mut [i64])
     requires { Limits h × (k ≤ all_steps) × (7 ≤ length words.old) }
     ensures { words.new ≡ sets words.old 0 (map pos (header_words h k)) }
 {
-    let mut i: usize = 0;
-    while i < 7 {
+    for i in 0..7 {
         words[i] = integers::to_signed(header_word(h, k, i) as u64);
-        i += 1;
     }
 }
 
@@ -171,12 +169,10 @@ fn put_step_words(d: &[i8; DIGITS], from: usize, n: usize, words: &mut [i64], to
     requires { (n ≤ 16) × (from + n ≤ digit_places) × (to + n ≤ length words.old) × (to ≤ most_words) }
     ensures { words.new ≡ sets words.old to (digits_from d.now from n) }
 {
-    let mut x: usize = 0;
-    while x < ROWS {
+    for x in 0..ROWS {
         if x < n {
             words[to + x] = integers::widen(d[from + x]);
         }
-        x += 1;
     }
 }
 
@@ -189,11 +185,9 @@ fn put_words(h: Header, k: usize, d: &[i8; DIGITS], words: &mut [i64])
     put_header_words(h, k, words);
     let n = h.n;
     let mut to: usize = 7;
-    let mut j: usize = 0;
-    while j < k {
+    for j in 0..k {
         put_step_words(d, ROWS * j, n, words, to);
         to += n;
-        j += 1;
     }
 }
 

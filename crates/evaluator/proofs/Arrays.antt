@@ -2,15 +2,20 @@
 use mathlib.Core.Path.{◌≡◌, refl, sym, ap, ◌∙◌}
 use mathlib.Core.List.{List, [], ◌∷◌, ◌++◌}
 use Prim.Native.Nat.{ℕ, ◌+◌, ◌<◌, ◌≤◌}
+use native.Mathlib.Nat.{zero-add}
+use native.Mathlib.Numerals.{add-one}
 use native.Mathlib.Omega.{arith}
-use lib.IntN.{ℤ}
-use lib.ListN.{length, set, take, drop}
-use lib.Seq.{take_all}
+use lib.IntN.{ℤ, pos}
+use lib.ListN.{length, set, take, drop, get_or}
+use lib.Seq.{take_all, paste-suc}
 use Rattle.integers.specs.Flat.{at, list_from}
 use Rattle.integers.proofs.Flat.{length-list_from, getD_list_from}
-use Rattle.frame.proofs.Reader.{copy_turn}
 
 -- ---- a list whose first words are replaced, one after the other
+
+copy_turn : (d v : List ℤ) {out : List ℤ} (i : ℕ) {z : ℤ} → i < length v → length v ≤ length d → out ≡ take i v ++ drop i d → z ≡ get_or v i (pos 0)
+    → set out i z ≡ take (i + 1) v ++ drop (i + 1) d
+copy_turn d v i h l e f = rw (e, f, add-one) (simp zero-add at (paste-suc d 0 v i (pos 0) (rw zero-add (omega arith)) h))
 
 module _ (d : List ℤ) (n : ℕ) (f : ℕ → ℤ) where
   abbrev pub replaced : ℕ → List ℤ

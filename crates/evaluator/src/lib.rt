@@ -158,10 +158,8 @@ fn reading(digits: &[i8; DIGITS], i: usize, k: usize, r: usize) -> i64
 {
     let radix = r as i64;
     let mut y: i64 = 0;
-    let mut j: usize = 0;
-    while j < k {
+    for j in 0..k {
         y = radix * y + integers::widen(digits[16 * j + i]);
-        j += 1;
     }
     y
 }
@@ -175,11 +173,9 @@ fn two_readings(digits: &[i8; DIGITS], i: usize, k: usize, r: usize) -> [i64; 2]
     let radix = r as i64;
     let mut first: i64 = 0;
     let mut second: i64 = 0;
-    let mut j: usize = 0;
-    while j < k {
+    for j in 0..k {
         first = radix * first + integers::widen(digits[16 * j + i]);
         second = radix * second + integers::widen(digits[16 * j + i + 1]);
-        j += 1;
     }
     [first, second]
 }
@@ -206,15 +202,13 @@ pub fn put_readings(h: Header, k: usize, digits: &[i8; DIGITS], out: &mut [i64])
 {
     let n = h.n;
     let r = job::radix_by_shift(h.code);
-    let mut i: usize = 0;
-    while i + 1 < n {
-        let two = two_readings(digits, i, k, r);
-        out[i] = two[0];
-        out[i + 1] = two[1];
-        i += 2;
+    for i in 0..n / 2 {
+        let two = two_readings(digits, 2 * i, k, r);
+        out[2 * i] = two[0];
+        out[2 * i + 1] = two[1];
     }
-    if i < n {
-        out[i] = reading(digits, i, k, r);
+    if n % 2 == 1 {
+        out[n - 1] = reading(digits, n - 1, k, r);
     }
 }
 

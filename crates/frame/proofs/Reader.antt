@@ -1,14 +1,11 @@
 -- The laws of the frame reader's code of `src/lib.rt` after `unpack`, over its variables.
 use mathlib.Core.Path.{◌≡◌, refl, sym, ap, ap₂, ◌∙◌}
 use mathlib.Core.List.{List, [], ◌∷◌, ◌++◌}
-use Prim.Native.Nat.{ℕ, ◌+◌, ◌<◌, ◌≤◌}
-use native.Mathlib.Nat.{zero-add}
-use native.Mathlib.Numerals.{add-one}
+use Prim.Native.Nat.{ℕ, ◌<◌, ◌≤◌}
 use native.Mathlib.Omega.{arith}
 use borrow.Author.Tests.{le-ltb, lt-ltb, ne_eqb}
-use lib.IntN.{ℤ, pos}
-use lib.ListN.{length, take, drop, get_or, set}
-use lib.Seq.{paste-suc}
+use lib.IntN.{ℤ}
+use lib.ListN.{length, take, drop}
 use Rattle.job.specs.Header.{count}
 use Rattle.job.specs.declared.Verdict.{Verdict}
 use Rattle.frame.specs.declared.FrameRead.{FrameRead}
@@ -17,12 +14,6 @@ use Rattle.frame.specs.Frame.{frame_numbers, number_checks, frame_checks, frame_
 use Rattle.frame.specs.Inner.{checks_verdict, layout_refusal, refused_answer, unpack_answer, unpacked}
 use Rattle.frame.proofs.Verdicts.{verdict_first, verdict_after}
 use Rattle.frame.proofs.ReadJob.{Unpacked, layout_verdict, unpack_refusal, unpack_refused, part_long, part_verdict}
-
--- ---- a list copied to the front of another
-
-pub copy_turn : (d v : List ℤ) {out : List ℤ} (i : ℕ) {z : ℤ} → i < length v → length v ≤ length d → out ≡ take i v ++ drop i d → z ≡ get_or v i (pos 0)
-    → set out i z ≡ take (i + 1) v ++ drop (i + 1) d
-copy_turn d v i h l e f = rw (e, f, add-one) (simp zero-add at (paste-suc d 0 v i (pos 0) (rw zero-add (omega arith)) h))
 
 -- ---- the answer and the list, from the verdict of all checks
 

@@ -1,15 +1,16 @@
 -- The laws of the frame writer's code of `src/lib.rt`, over its variables.
 use mathlib.Core.Path.{◌≡◌, refl, sym, ap, ◌∙◌}
-use mathlib.Core.Bool.{Bool, true, false, not, ◌&&◌}
+use mathlib.Core.Bool.{Bool, true, false, not, and-false}
 use mathlib.Core.List.{List, [], ◌∷◌, ◌++◌, map, append-nil}
-use Prim.Native.Nat.{ℕ, suc, ◌+◌, ◌*◌, ◌<◌, ◌≤◌}
+use Prim.Native.Nat.{ℕ, zero, suc, ◌+◌, ◌*◌, ◌<◌, ◌≤◌}
 use native.Mathlib.Nat.{le_of_eq, mul-one}
-use native.Mathlib.Numerals.{add-one}
 use native.Mathlib.Omega.{arith}
-use borrow.Author.Tests.{le-ltb, lt-ltb, eq-eqb, ne_eqb, not-false, not-true}
+use borrow.Author.Tests.{le-ltb, lt-ltb, eq-eqb, ne_eqb, not-false}
 use lib.IntN.{ℤ, pos}
 use lib.ListN.{length, take, drop, get_or, drop_of_length-le}
-use lib.Seq.{drop-cons, length-take-le}
+use lib.Seq.{length-take-le}
+use Rattle.std.specs.Bool.{MatchBool}
+use Rattle.std.specs.List.{AllWithin, HoldsAt}
 use Rattle.bitfields.specs.Layout.{Field, bits, number, each, octets, bytes_for, Bytes, pack, write, put, written}
 use Rattle.bitfields.specs.Twos.{encode, fitsb, AllFit}
 use Rattle.bitfields.proofs.Writing.{put_written}
@@ -28,31 +29,23 @@ use Rattle.frame.proofs.RoundTrip.{bits-frame}
 use Rattle.frame.specs.Inner.{checks_verdict}
 use Rattle.frame.proofs.Verdicts.{rowless, verdict_before, verdict_first, verdict_after, numbers-small}
 
--- ---- 13: numbers that fit, one after the other
+-- ---- 13: whether every number fits, told by one that does not or by all that do
 
--- the numbers before number i fit, so those from it on decide
-pub record FitBefore (w : ℕ) (v : List ℤ) (i : ℕ) : Type 0 where
-  pub within : i ≤ length v
-  pub rest : all_fit w v ≡ all_fit w (drop i v)
-
-pub fit-start : (w : ℕ) (v : List ℤ) → FitBefore w v 0
-fit-start w v = record { within = omega arith; rest = refl }
-
--- t says whether number i fits
-module _ {w : ℕ} {v : List ℤ} {i : ℕ} {t : Bool} (k : FitBefore w v i) (l : i < length v) (f : t ≡ fitsb w (get_or v i (pos 0))) where
-  fit-rest : all_fit w v ≡ t && all_fit w (drop (suc i) v)
-  unfolding all_fit
-  fit-rest = k.rest ∙ rw (drop-cons v i (pos 0) l, f)
-
-  pub fit_turn : not t ≡ false → FitBefore w v (i + 1)
-  fit_turn n = record { within = omega arith; rest = rw add-one (rw (not-false t n) at fit-rest) }
-
-  pub fit_fails : not t ≡ true → false ≡ all_fit w v
-  fit_fails n = sym (rw (not-true t n) at fit-rest)
-
-pub fit_all : {w : ℕ} {v : List ℤ} {i : ℕ} → FitBefore w v i → length v ≤ i → true ≡ all_fit w v
+every_fits : (w : ℕ) (v : List ℤ) → ((k : ℕ) → k < length v → fitsb w (get_or v k (pos 0)) ≡ true) → true ≡ all_fit w v
 unfolding all_fit
-fit_all {v} k l = sym (rw (drop_of_length-le v l) at k.rest)
+every_fits w [] h = refl
+every_fits w (z ∷ v) h = rw (h 0 (omega arith)) (every_fits w v (λ k l. h (suc k) (omega arith)))
+
+one_too_wide : (w : ℕ) (v : List ℤ) (k : ℕ) → k < length v → fitsb w (get_or v k (pos 0)) ≡ false → false ≡ all_fit w v
+unfolding all_fit
+one_too_wide w [] k l h = absurd (omega arith)
+one_too_wide w (z ∷ v) zero l h = rw h refl
+one_too_wide w (z ∷ v) (suc k) l h = rw (← one_too_wide w v k (omega arith) h) (sym (and-false (fitsb w z)))
+
+pub fit_told : (w : ℕ) (v : List ℤ) (t : Bool)
+    → MatchBool t (AllWithin (λ z. fitsb w z ≡ true) v 0 (length v)) ((k : ℕ) × (k < length v) × HoldsAt (λ z. fitsb w z ≡ false) v k) → t ≡ all_fit w v
+fit_told w v true h = every_fits w v (λ k l. h k (pos 0) (omega arith) l)
+fit_told w v false h = one_too_wide w v h.0 h.1 (h.2 (pos 0))
 
 -- ---- 12, 13, 8 and 15
 

@@ -178,11 +178,7 @@ fn copy(v: &[i64], out: &mut [i64])
     requires { length v.now ≤ length out.old }
     ensures { out.new ≡ v.now ++ drop (length v.now) out.old }
 {
-    let mut i = 0;
-    while i < v.len() {
-        out[i] = v[i];
-        i += 1;
-    }
+    out[..v.len()].copy_from_slice(v);
 }
 
 // The frame reader: the header, and the numbers as sent in the first words of out.
@@ -213,14 +209,7 @@ fn all_fit(v: &[i64], w: usize) -> bool
     requires { (0 < w) × (w ≤ 48) }
     ensures { result ≡ all_fit w v.now }
 {
-    let mut i = 0;
-    while i < v.len() {
-        if !bitfields::fits(v[i], w) {
-            return false;
-        }
-        i += 1;
-    }
-    true
+    v.iter().all(|z| bitfields::fits(*z, w))
 }
 
 // Refusals 12, 13, 8 and 15, of any numbers.

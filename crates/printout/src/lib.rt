@@ -54,10 +54,8 @@ fn put_digits(out: &mut [u8], at: usize, digits: &[i8; DIGITS], t: usize, n: usi
     ensures { Put out.old at (line_end (items_from 0 n (digits_of digits.now (suc t)))) out.new result }
 {
     let mut end = at;
-    let mut i: usize = 0;
-    while i < n {
+    for i in 0..n {
         end = put_item(out, end, widen(digits[16 * t + i]));
-        i += 1;
     }
     put_byte(out, end, b'\n')
 }
@@ -79,10 +77,8 @@ fn put_step_lines(out: &mut [u8], at: usize, s: State) -> usize
     let n = s.header.n;
     let k = s.k;
     let mut end = at;
-    let mut t: usize = 0;
-    while t < k {
+    for t in 0..k {
         end = put_step_line(out, end, &s.digits, t, n);
-        t += 1;
     }
     end
 }
@@ -93,10 +89,8 @@ fn put_numbers(out: &mut [u8], at: usize, y: &[i64; 16], n: usize) -> usize
     ensures { Put out.old at (line_end (items_from 0 n (λ i. get_or y.now i (pos 0)))) out.new result }
 {
     let mut end = at;
-    let mut i: usize = 0;
-    while i < n {
+    for i in 0..n {
         end = put_item(out, end, y[i]);
-        i += 1;
     }
     put_byte(out, end, b'\n')
 }

@@ -89,13 +89,11 @@ fn random_state(seed: u64) -> State {
     let mut z = [0i64; ROWS];
     let mut digits = [0i8; DIGITS];
     let mut x = seed;
-    let mut i: usize = 0;
-    while i < DIGITS {
+    for i in 0..DIGITS {
         x = next(x);
         g[i % ENTRIES] = number(x);
         z[i % ROWS] = number(!x);
         digits[i] = digit(x >> 7);
-        i += 1;
     }
     State {
         busy: x % 8 != 0,
@@ -228,15 +226,13 @@ fn same_header(a: Header, b: Header) -> bool {
 
 // Whether two lists have the same words from the place `from` on.
 fn same_from(a: &[i64], b: &[i64], from: usize) -> bool {
-    let mut i = from;
-    while i < a.len() {
+    for i in from..a.len() {
         if b.len() <= i {
             return false;
         }
         if a[i] != b[i] {
             return false;
         }
-        i += 1;
     }
     true
 }
@@ -249,12 +245,10 @@ fn may_change(i: usize, n: usize, k: usize, last: usize) -> bool {
 
 // Whether all digits are the same but those that steps may set.
 fn digits_kept(a: &[i8; DIGITS], b: &[i8; DIGITS], n: usize, k: usize, last: usize) -> bool {
-    let mut i: usize = 0;
-    while i < DIGITS {
+    for i in 0..DIGITS {
         if a[i] != b[i] && !may_change(i, n, k, last) {
             return false;
         }
-        i += 1;
     }
     true
 }
@@ -403,13 +397,11 @@ fn turns(
     sums: &mut [u64; TALLIES],
 ) -> bool {
     let mut x: u64 = 88172645463325252;
-    let mut i: usize = 0;
-    while i < most {
+    for _ in 0..most {
         x = next(x);
         if !turn(x >> 3, advances, reads, sums) {
             return false;
         }
-        i += 1;
     }
     true
 }

@@ -32,12 +32,10 @@ fn count_columns(d: &[i8; ROWS], n: usize) -> usize
     ensures { result ≡ columns_below (at d.now) n }
 {
     let mut count: usize = 0;
-    let mut j: usize = 0;
-    while j < n {
+    for j in 0..n {
         if d[j] != 0 {
             count += 1;
         }
-        j += 1;
     }
     count
 }
@@ -49,10 +47,8 @@ fn put_column(number: usize, s: &[i64; ROWS], n: usize, out: &mut [i64], to: usi
     ensures { out.new ≡ sets out.old to (pos number ∷ list_from 0 n (at s.now)) }
 {
     out[to] = integers::to_signed(number as u64);
-    let mut i: usize = 0;
-    while i < n {
+    for i in 0..n {
         out[to + 1 + i] = s[i];
-        i += 1;
     }
 }
 
@@ -64,15 +60,13 @@ fn put_sums(g: &[i64; ENTRIES], d: &[i8; ROWS], n: usize, out: &mut [i64])
 {
     let mut s = [0i64; ROWS];
     let mut to: usize = 0;
-    let mut j: usize = 0;
-    while j < n {
+    for j in 0..n {
         let digit = d[j];
         if digit != 0 {
             column::add_column(g, j, 0, n, integers::widen(digit), &mut s);
             put_column(j + 1, &s, n, out, to);
             to += n + 1;
         }
-        j += 1;
     }
 }
 

@@ -17,13 +17,11 @@ fn largest(z: &[i64; ROWS], n: usize) -> u64
     ensures { result ≡ peak n (at z.now) }
 {
     let mut top: u64 = 0;
-    let mut i: usize = 0;
-    while i < n {
+    for i in 0..n {
         let a = integers::magnitude(z[i]);
         if top < a {
             top = a;
         }
-        i += 1;
     }
     top
 }

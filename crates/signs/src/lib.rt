@@ -22,13 +22,11 @@ fn place_column(g: &[i64; ENTRIES], n: usize, j: usize, t: &mut [i64; BOTH]) -> 
     ensures entries { result ≡ column_entries n g.now j }
 {
     let mut c: usize = 0;
-    let mut i: usize = 0;
-    while i < n {
+    for i in 0..n {
         let v = g[16 * i + j];
         t[16 * j + i] = 0 - v;
         t[256 + (16 * j + i)] = v;
         c = counts::counted(v, c);
-        i += 1;
     }
     c
 }
@@ -41,10 +39,8 @@ pub fn columns(g: &[i64; ENTRIES], n: usize, entries: &mut [usize; ROWS]) -> [i6
     ensures entries { Counts n (column_entries n g.now) entries.new }
 {
     let mut t = [0i64; BOTH];
-    let mut j: usize = 0;
-    while j < n {
+    for j in 0..n {
         entries[j] = place_column(g, n, j, &mut t);
-        j += 1;
     }
     t
 }
@@ -63,10 +59,8 @@ fn add_rows(t: &[i64; BOTH], place: usize, s: &mut [i64; ROWS])
     requires { MayAdd t.now place s.old }
     ensures { s.new ≡ filled (added t.now place s.old) s.old 16 }
 {
-    let mut i: usize = 0;
-    while i < 16 {
+    for i in 0..16 {
         s[i] = s[i] + t[place + i];
-        i += 1;
     }
 }
 
@@ -76,10 +70,8 @@ pub fn listed_sums<'a>(t: &'a [i64; BOTH], list: &'a [usize; ROWS], count: usize
     ensures { ListedSums t.now list.now count result }
 {
     let mut s = [0i64; ROWS];
-    let mut c: usize = 0;
-    while c < count {
+    for c in 0..count {
         add_rows(t, list[c], &mut s);
-        c += 1;
     }
     s
 }

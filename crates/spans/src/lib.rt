@@ -55,10 +55,8 @@ pub fn column_starts(g: &[i64; ENTRIES], n: usize, lo: &mut [usize; ROWS])
     requires { (n ≤ 16) × (length lo.old ≡ 16) }
     ensures { Starts n g.now lo.new }
 {
-    let mut j: usize = 0;
-    while j < n {
+    for j in 0..n {
         lo[j] = column_start(g, j, n);
-        j += 1;
     }
 }
 
@@ -67,10 +65,8 @@ pub fn column_ends(g: &[i64; ENTRIES], n: usize, hi: &mut [usize; ROWS])
     requires { (n ≤ 16) × (length hi.old ≡ 16) }
     ensures { Ends n g.now hi.new }
 {
-    let mut j: usize = 0;
-    while j < n {
+    for j in 0..n {
         hi[j] = column_end(g, j, n);
-        j += 1;
     }
 }
 
@@ -80,14 +76,12 @@ fn column_next(g: &[i64; ENTRIES], j: usize, lo: usize, hi: usize) -> usize
     requires { (j < 16) × (lo < 16) × (hi ≤ 16) }
     ensures { Next g.now j lo result }
 {
-    let mut next = lo + 1;
-    while next < hi {
+    for next in lo + 1..hi {
         if g[16 * next + j] != 0 {
             return next;
         }
-        next += 1;
     }
-    next
+    hi.max(lo + 1)
 }
 
 // For each column its entry in the row where it starts, in `firsts`, and the row of its next one, in `nexts`.
@@ -104,11 +98,9 @@ pub fn column_firsts<'a>(
     ensures firsts { Firsts n g.now starts.now firsts.new }
     ensures nexts { Nexts n g.now starts.now nexts.new }
 {
-    let mut j: usize = 0;
-    while j < n {
+    for j in 0..n {
         firsts[j] = g[16 * starts[j] + j];
         nexts[j] = column_next(g, j, starts[j], ends[j]);
-        j += 1;
     }
 }
 
@@ -117,10 +109,8 @@ fn first_products(g: &[i64; ENTRIES], d: i64, n: usize, s: &mut [i64; ROWS])
     requires { (n ≤ 16) × MayBegin n g.now d }
     ensures { s.new ≡ filled (first_product g.now d) s.old n }
 {
-    let mut i: usize = 0;
-    while i < n {
+    for i in 0..n {
         s[i] = column::sum_after(0, g[16 * i], d);
-        i += 1;
     }
 }
 
@@ -153,8 +143,7 @@ pub fn column_sums<'a>(
     ensures { (length s.new ≡ 16) × Summed n g.now d.now s.new }
 {
     begin_sums(g, starts[0], ends[0], integers::widen(d[0]), n, s);
-    let mut j: usize = 1;
-    while j < n {
+    for j in 1..n {
         column::add_entries(
             g,
             firsts[j],
@@ -165,6 +154,5 @@ pub fn column_sums<'a>(
             integers::widen(d[j]),
             s,
         );
-        j += 1;
     }
 }

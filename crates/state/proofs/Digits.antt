@@ -1,14 +1,19 @@
 -- What `beyond` says to a reader, and that a mark for each row finds it. Cited by the proofs of `beyond` and
 -- `some_row`, by `PassesLimits` and by those who look at digits.
-use mathlib.Core.Path.{◌≡◌, refl}
-use mathlib.Core.Bool.{false}
+use mathlib.Core.Path.{◌≡◌, refl, sym, ◌∙◌}
+use mathlib.Core.Bool.{Bool, true, false, true≢false}
 use mathlib.Core.List.{List}
 use mathlib.Core.Logic.{◌↔◌, ◌⊎◌, inl, inr}
 use Prim.Native.Nat.{ℕ, zero, suc, ◌+◌, ◌<◌, ◌≤◌}
 use native.Mathlib.Omega.{arith}
-use borrow.Author.Tests.{le-ltb, ltb-false}
+use borrow.Author.Tests.{lt-ltb, le-ltb, ltb-false}
 use lib.Dec.{ltb}
 use lib.IntN.{ℤ, nat_abs}
+use lib.ListN.{length, take, get_or}
+use lib.Seq.{length-take-le}
+use Rattle.std.specs.Bool.{MatchBool}
+use Rattle.std.specs.List.{AllWithin, HoldsAt}
+use Rattle.std.proofs.lemmas.List.{get_or-take}
 use Rattle.integers.specs.Flat.{entry}
 use Rattle.integers.proofs.Maximum.{le_or_lt}
 use Rattle.system.specs.Rows.{first_row}
@@ -55,3 +60,24 @@ marks_beyond n b ds j c m h k =
     same_test (ltb 0 (first_row n (mark_of m))) (beyond n b ds j c)
     (λ e. f.1 (λ i l. (k.unmarked i (omega arith)).0 ((r.0 e).never i l)))
     (λ e. r.1 (record { never = λ i l. (k.unmarked i (omega arith)).1 (f.0 e i l) }))
+
+-- ---- a mark among those of the first n rows, as `any` tells it
+
+pub some_marked : (n : ℕ) (m : List ℕ) (t : Bool) → n ≤ length m
+    → MatchBool t ((k : ℕ) × (k < length (take n m)) × HoldsAt (λ a. 0 < a) (take n m) k) (AllWithin (λ a. a ≤ 0) (take n m) 0 (length (take n m)))
+    → t ≡ ltb 0 (first_row n (mark_of m))
+some_marked n m true l h = by_test (ltb 0 (first_row n (mark_of m))) not_none
+  where
+    by_test : (b : Bool) → (b ≡ false → ⊥) → true ≡ b
+    by_test true f = refl
+    by_test false f = absurd (f refl)
+
+    not_none : ltb 0 (first_row n (mark_of m)) ≡ false → ⊥
+    not_none e =
+        let i : h.0 < n = omega (arith, h.1, length-take-le n m l) in
+        let a : 0 < get_or m h.0 0 = rw (get_or-take n m h.0 0 i) at (h.2 0) in
+        true≢false (sym (lt-ltb 0 (get_or m h.0 0) a) ∙ ((no_row n (mark_of m)).0 e).never h.0 i)
+some_marked n m false l h = sym ((no_row n (mark_of m)).1 (record { never = unmarked }))
+  where
+    unmarked : (j : ℕ) → j < n → mark_of m j ≡ false
+    unmarked j q = le-ltb 0 (get_or m j 0) (rw (get_or-take n m j 0 q) at (h j 0 (omega arith) (omega (arith, length-take-le n m l))))

@@ -59,14 +59,10 @@ fn rows_beyond(d: &[i8; DIGITS], bound: usize, j: usize, c: usize) -> [u8; ROWS]
     ensures { RowsBeyond bound d.now j (λ i. j + c) result }
 {
     let mut m = [0u8; ROWS];
-    let mut t = j;
-    while t < j + c {
-        let mut i: usize = 0;
-        while i < ROWS {
+    for t in j..j + c {
+        for i in 0..ROWS {
             m[i] = marked(m[i], d[16 * t + i], bound);
-            i += 1;
         }
-        t += 1;
     }
     m
 }
@@ -76,14 +72,7 @@ fn some_row(marks: [u8; ROWS], n: usize) -> bool
     requires { n ≤ 16 }
     ensures { result ≡ ltb 0 (first_row n (mark_of marks)) }
 {
-    let mut i: usize = 0;
-    while i < n {
-        if 0 < marks[i] {
-            return true;
-        }
-        i += 1;
-    }
-    false
+    marks[..n].iter().any(|m| 0 < *m)
 }
 
 // Whether one of the first n rows has a digit beyond the bound in one of the c steps after the first j.

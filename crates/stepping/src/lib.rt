@@ -36,10 +36,8 @@ pub fn last_digits(digits: &[i8; DIGITS], k: usize, n: usize) -> [i8; ROWS]
         return d;
     }
     let start = 16 * (k - 1);
-    let mut i: usize = 0;
-    while i < n {
+    for i in 0..n {
         d[i] = digits[start + i];
-        i += 1;
     }
     d
 }
@@ -54,10 +52,8 @@ fn first_sums<'a>(g: &'a [i64; ENTRIES], d: &'a [i8; ROWS], n: usize, k: usize) 
     if k == 0 {
         return s;
     }
-    let mut j: usize = 0;
-    while j < n {
+    for j in 0..n {
         column::add_column(g, j, 0, n, integers::widen(d[j]), &mut s);
-        j += 1;
     }
     s
 }
@@ -133,8 +129,7 @@ fn run_by_spans(
     let mut chosen = [0i8; ROWS];
     let mut sums = first_sums(g, &before, n, k);
     let mut times = counts::first_times(digits, k);
-    let mut j: usize = 0;
-    while j < made {
+    for j in 0..made {
         let newest = step_by_spans(
             h,
             scale,
@@ -157,7 +152,6 @@ fn run_by_spans(
         );
         chosen = before;
         before = newest;
-        j += 1;
     }
     let mut entries = [0usize; ROWS];
     counts::entries(g, &starts, &ends, n, &mut entries);
@@ -232,8 +226,7 @@ fn run_by_signs(
     let mut chosen = [0i8; ROWS];
     let mut sums = first_sums(g, &before, n, k);
     let mut times = counts::first_times(digits, k);
-    let mut j: usize = 0;
-    while j < made {
+    for j in 0..made {
         let newest = step_by_signs(
             h,
             scale,
@@ -252,7 +245,6 @@ fn run_by_signs(
         );
         chosen = before;
         before = newest;
-        j += 1;
     }
     counts::additions(&entries, &times, digits, k + made, n)
 }

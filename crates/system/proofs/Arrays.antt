@@ -4,7 +4,7 @@ use mathlib.Core.Path.{◌≡◌, sym, ap, ◌∙◌}
 use mathlib.Core.Bool.{cond, ◌&&◌, and-false}
 use mathlib.Core.List.{List}
 use mathlib.Core.Logic.{◌⊎◌, inl, inr}
-use Prim.Native.Nat.{ℕ, ◌+◌, ◌*◌, ◌/◌, ◌%◌, ◌<◌, ◌≤◌}
+use Prim.Native.Nat.{ℕ, ◌+◌, ◌-◌, ◌*◌, ◌/◌, ◌%◌, ◌<◌, ◌≤◌}
 use native.Mathlib.Numerals.{add-one}
 use native.Mathlib.Omega.{arith}
 use borrow.Author.Tests.{le-ltb}
@@ -22,6 +22,13 @@ use Rattle.system.specs.Inner.{zeros}
 pub stores-more : (g : List ℤ) (place : ℕ → ℕ) (value : ℕ → ℤ) (k : ℕ) (z : List ℤ) (x : ℤ) → z ≡ stores g place value k → x ≡ value k
     → set z (place k) x ≡ stores g place value (k + 1)
 stores-more g place value k z x e f = rw (e, f, add-one) (sym (stores-suc g place value k))
+
+-- the same, of a loop that counts from 1
+pub stores_next : (g : List ℤ) (place : ℕ → ℕ) (value : ℕ → ℤ) (i p : ℕ) (z : List ℤ) (x : ℤ) → 1 ≤ i → p ≡ place (i - 1)
+    → z ≡ stores g place value (i - 1) → x ≡ value (i - 1) → set z p x ≡ stores g place value (i + 1 - 1)
+stores_next g place value i p z x h s e f =
+    let m : i + 1 - 1 ≡ i - 1 + 1 = omega arith in
+    rw (s, m) (stores-more g place value (i - 1) z x e f)
 
 -- ---- a vector
 

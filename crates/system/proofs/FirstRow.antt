@@ -6,7 +6,7 @@ use mathlib.Core.Logic.{◌↔◌, ◌⊎◌, inl, inr}
 use Prim.Native.Nat.{ℕ, zero, suc, ◌+◌, ◌<◌, ◌≤◌}
 use native.Mathlib.Numerals.{add-one}
 use native.Mathlib.Omega.{arith}
-use borrow.Author.Tests.{lt-ltb, le-ltb, ltb-false}
+use borrow.Author.Tests.{le-ltb, ltb-false}
 use lib.Dec.{ltb}
 use Rattle.integers.proofs.Maximum.{le_or_lt, below_suc}
 use Rattle.system.specs.Rows.{first_row, first_row_from, Never, FirstRowIs, FirstRowFound, FirstRowNone}
@@ -99,10 +99,3 @@ module _ (t : ℕ → Bool) (n i : ℕ) (h : Never i t) where
 
   pub search_over : i ≡ n → 0 ≡ first_row n t
   search_over e = sym ((first_row-none t n).1 (rw e at h))
-
-  -- whether there is one
-  pub search_some : i < n → t i ≡ true → true ≡ ltb 0 (first_row n t)
-  search_some l e = rw (← search_found l e) (sym (lt-ltb 0 (i + 1) (omega arith)))
-
-  pub search_none : i ≡ n → false ≡ ltb 0 (first_row n t)
-  search_none e = rw (← search_over e)

@@ -24,10 +24,8 @@ fn place_argument(g: &mut [i64; ENTRIES], n: usize, x: i64)
     requires { n ≤ 16 }
     ensures { g.new ≡ stores g.old (λ i. 16 * i + (i + 1)) (λ i. x) (n - 1) }
 {
-    let mut i: usize = 0;
-    while i + 1 < n {
-        g[16 * i + (i + 1)] = x;
-        i += 1;
+    for i in 1..n {
+        g[16 * (i - 1) + i] = x;
     }
 }
 
@@ -36,10 +34,8 @@ fn place_denominator(g: &mut [i64; ENTRIES], n: usize, v: &[i64])
     requires { (n ≤ 16) × Numbers (2 * n) v.now }
     ensures { g.new ≡ stores g.old (λ i. 16 * (i + 1)) (λ i. neg_ℤ (denominator n v.now (i + 1))) (n - 1) }
 {
-    let mut i: usize = 0;
-    while i + 1 < n {
-        g[16 * (i + 1)] = 0 - v[n + (i + 1)];
-        i += 1;
+    for i in 1..n {
+        g[16 * i] = 0 - v[n + i];
     }
 }
 
@@ -60,10 +56,8 @@ fn place_row(g: &mut [i64; ENTRIES], i: usize, n: usize, u: u64, v: &[i64])
     requires { (i < n) × (n ≤ 16) × (u ≤ 2 ^ 40) × Numbers (n * (n + 1)) v.now }
     ensures { g.new ≡ stores g.old (λ j. 16 * i + j) (system_entry u n v.now i) n }
 {
-    let mut j: usize = 0;
-    while j < n {
+    for j in 0..n {
         g[16 * i + j] = system_entry(u, i, j, v[i * (n + 1) + j]);
-        j += 1;
     }
 }
 
@@ -72,10 +66,8 @@ fn place_rows(g: &mut [i64; ENTRIES], n: usize, u: u64, v: &[i64])
     requires { (n ≤ 16) × (u ≤ 2 ^ 40) × Numbers (n * (n + 1)) v.now × (g.old ≡ zeros) }
     ensures { g.new ≡ flat_matrix n (system_entry u n v.now) }
 {
-    let mut i: usize = 0;
-    while i < n {
+    for i in 0..n {
         place_row(g, i, n, u, v);
-        i += 1;
     }
 }
 
@@ -86,11 +78,9 @@ fn place_quotients(g: &mut [i64; ENTRIES], n: usize, v: &[i64])
     requires { (1 ≤ n) × (n ≤ 16) × Numbers (3 * n - 2) v.now × (g.old ≡ zeros) }
     ensures { g.new ≡ flat_matrix n (quotients_entry (coefficient v.now) (subtrahend v.now)) }
 {
-    let mut i: usize = 1;
-    while i < n {
+    for i in 1..n {
         g[i] = v[3 * i - 2];
         g[16 * i + i] = v[3 * i];
-        i += 1;
     }
 }
 
@@ -156,11 +146,9 @@ pub fn right_sides(h: Header, v: &[i64]) -> [i64; ROWS]
     z[0] = v[right_place(kind, n, 0)];
     let stride = right_stride(kind, n);
     let mut place = right_place(kind, n, 1);
-    let mut i: usize = 1;
-    while i < n {
+    for i in 1..n {
         z[i] = v[place];
         place += stride;
-        i += 1;
     }
     z
 }
@@ -206,19 +194,15 @@ fn first_heavy(g: &[i64; ENTRIES], n: usize, limit: i64) -> usize
     ensures { result ≡ first_row n (too_heavy limit n g.now) }
 {
     let mut heavy: usize = 0;
-    let mut i: usize = 0;
-    'rows: while i < n {
+    'rows: for i in 0..n {
         let mut room = limit;
-        let mut j: usize = 0;
-        while j < n {
+        for j in 0..n {
             room = room_after(room, g[16 * i + j]);
             if room < 0 {
                 heavy = i + 1;
                 break 'rows;
             }
-            j += 1;
         }
-        i += 1;
     }
     heavy
 }
@@ -236,12 +220,10 @@ fn first_large(z: &[i64; ROWS], n: usize, most: i64) -> usize
     requires { (n ≤ 16) × (pos 0 ≤ℤ most) }
     ensures { result ≡ first_row n (too_large most z.now) }
 {
-    let mut i: usize = 0;
-    while i < n {
+    for i in 0..n {
         if above(z[i], most) {
             return i + 1;
         }
-        i += 1;
     }
     0
 }

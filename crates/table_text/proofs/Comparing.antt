@@ -131,13 +131,12 @@ module _ (s : List ℕ) where
           count = rw (add-one k, ← y.1) (next-count ∙ rw y.0 (omega arith));
         }
 
-  pub all_agree : {k from : ℕ} → Agreed s k from → estimate_count ≤ k → ◌≡◌ {A = Compared} (record { same = eqb (length s) from; agreeing = k }) (compared s)
+  pub all_agree : {k from : ℕ} → Agreed s k from → estimate_count ≤ k → ◌≡◌ {A = Compared} (record { same = eqb (length s) from; agreeing = estimate_count }) (compared s)
   unfolding compared agreeing
   all_agree {k} {from} a h =
-      let n : k ≡ estimate_count = omega (arith, a.few) in
       let none : drop k selection_table ≡ [] = drop_of_length-le selection_table {i = k} (omega (arith, table-length)) in
       let c : agreeing selection_table s ≡ estimate_count = a.count ∙ rw none (omega arith) in
-      rw (c, n, ← first_all k h, ← a.place) refl
+      rw (c, ← first_all k h, ← a.place) refl
 
 -- ---- only the table's text is the same
 

@@ -52,11 +52,9 @@ fn put_table(out: &mut [u8]) -> usize
     ensures { Put out.old 0 table_text out.new result }
 {
     let mut end: usize = 0;
-    let mut k: usize = 0;
-    while k < ESTIMATES {
+    for k in 0..ESTIMATES {
         let z = nearest((k as i64) - 512);
         end = put_entry(out, end, z);
-        k += 1;
     }
     end
 }
@@ -102,8 +100,7 @@ pub fn compare_table(s: &[u8]) -> Compared
 {
     let t = selection::table();
     let mut at: usize = 0;
-    let mut k: usize = 0;
-    while k < ESTIMATES {
+    for k in 0..ESTIMATES {
         let end = after_line(s, at, integers::widen(t[k]));
         if end == 0 {
             return Compared {
@@ -112,10 +109,9 @@ pub fn compare_table(s: &[u8]) -> Compared
             };
         }
         at = end;
-        k += 1;
     }
     Compared {
         same: s.len() == at,
-        agreeing: k,
+        agreeing: ESTIMATES,
     }
 }

@@ -4,15 +4,16 @@ use mathlib.Core.Path.{◌≡◌, refl, sym, ap, ◌∙◌}
 use mathlib.Core.Bool.{Bool, true, false, cond}
 use mathlib.Core.List.{List, [], ◌∷◌, ◌++◌, append_assoc, append-nil}
 use mathlib.Core.Logic.{◌⊎◌, inl, inr}
-use Prim.Native.Nat.{ℕ, zero, suc, ◌+◌, ◌/◌, ◌%◌, ◌^◌, ◌<◌, ◌≤◌}
+use Prim.Native.Nat.{ℕ, zero, suc, ◌+◌, ◌-◌, ◌/◌, ◌%◌, ◌^◌, ◌<◌, ◌≤◌}
 use native.Mathlib.Nat.{div-lt_iff_lt-mul, pow-suc}
 use native.Mathlib.Numerals.{add-one}
 use native.Mathlib.Omega.{arith}
 use borrow.Author.Tests.{lt-ltb, le-ltb}
+use borrow.Rule.Slice.PartMut.{put_mid}
 use lib.Dec.{ltb}
 use lib.IntN.{ℤ, pos, negsuc, nat_abs}
-use lib.ListN.{length, take, drop, set, get_or, take-append-drop, length-append, drop_of_length-le}
-use lib.Seq.{append_snoc, set_split, length-take-le, drop-append-add, drop-drop, take_at, take_all, take-suc}
+use lib.ListN.{length, take, drop, set, take-append-drop, length-append, drop_of_length-le}
+use lib.Seq.{append_snoc, set_split, length-take-le, drop-append-add, drop-drop, take_at, take_all}
 use lib.Signed.{lt_z}
 use Rattle.integers.proofs.Maximum.{le_or_lt}
 use Rattle.integers.proofs.Order.{zarith}
@@ -169,16 +170,10 @@ module _ (out : List ℕ) (at : ℕ) (z : ℤ) (n : ℕ) (e : n ≡ nat_abs z) w
     pub put_nonnegative : {after : List ℕ} {end : ℕ} → Put out at (decimal n) after end → Put out at (signed_decimal z) after end
     put_nonnegative p = rw (signed_nonnegative z h, ← e) p
 
--- ---- the bytes of s, of which the first i are put
+-- ---- the bytes of s, in the place of as many bytes of the buffer
 
-pub put-none : (out : List ℕ) (at : ℕ) (s : List ℕ) → Put out at (take 0 s) out (at + 0)
-put-none out at s = let e : at + 0 ≡ at = omega arith in rw e (put_nothing out at)
-
-module _ (out : List ℕ) (at : ℕ) (s mid : List ℕ) (i : ℕ) (p : Put out at (take i s) mid (at + i)) where
-  pub put_next : HasRoom out at s → i < length s → length mid ≡ length out → Put out at (take (i + 1) s) (set mid (at + i) (get_or s i 0)) (at + (i + 1))
-  put_next room h e =
-      let m : at + (i + 1) ≡ at + i + 1 = omega arith in
-      rw (m, add-one i, take-suc s i 0 h) (put_then p (put_one mid (at + i) (get_or s i 0) (omega arith)))
-
-  pub put_all : length s ≤ i → Put out at s mid (at + i)
-  put_all h = rw (take_all i s h) at p
+pub put_part : (out : List ℕ) (at : ℕ) (s part : List ℕ) → part ≡ s → Put out at s (put_mid at (at + length s - at) out part) (at + length s)
+unfolding with_text
+put_part out at s part p =
+    let e : at + length s - at ≡ length s = omega arith in
+    record { holds = rw (e, p, drop-drop (length s) at out) (sym (append_assoc (take at out) s (drop (at + length s) out))); ends = refl }

@@ -41,10 +41,8 @@ pub(crate) fn store_eight(u: u64, d: &mut [i8; DIGITS], at: usize)
     ensures { d.new ≡ sets d.old at (digits_in 8 u) }
 {
     let y = eight_bytes(u);
-    let mut x = 0;
-    while x < 8 {
+    for x in 0..8 {
         d[at + x] = digit_of_byte((y >> ((8 * (7 - x)) as u64)) % 256);
-        x += 1;
     }
 }
 
@@ -63,10 +61,8 @@ pub(crate) fn digits_number(d: &[i8; DIGITS], at: usize, c: usize) -> u64
     ensures { result ≡ number (digit_fields (digits_from d.now at c)) }
 {
     let mut v: u64 = 0;
-    let mut x = 0;
-    while x < 8 {
+    for x in 0..8 {
         v = v * 32 + digit_bits(d[at + x]);
-        x += 1;
     }
     v >> ((5 * (8 - c)) as u64)
 }

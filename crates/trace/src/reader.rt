@@ -37,11 +37,9 @@ fn read_digits(b: &[u8], n: usize, k: usize) -> [i8; DIGITS]
 {
     let mut d = [0i8; DIGITS];
     let mut p = STEPS_BITS;
-    let mut j = 0;
-    while j < k {
+    for j in 0..k {
         read_step(b, p, n, &mut d, 16 * j);
         p += DIGIT_BITS * n;
-        j += 1;
     }
     d
 }

@@ -27,11 +27,7 @@ pub(crate) fn copy_step(from: &[i8; DIGITS], i: usize, to: &mut [i8; DIGITS], at
     requires { (i + n ≤ digit_places) × (at + n ≤ digit_places) }
     ensures { to.new ≡ sets to.old at (digits_from from.now i n) }
 {
-    let mut x = 0;
-    while x < n {
-        to[at + x] = from[i + x];
-        x += 1;
-    }
+    to[at..at + n].copy_from_slice(&from[i..i + n]);
 }
 
 // The digits of the first k steps and the first n rows, and 0 elsewhere.
@@ -40,10 +36,8 @@ fn trimmed_digits(d: &[i8; DIGITS], n: usize, k: usize) -> [i8; DIGITS]
     ensures { result ≡ digit_array n k (digit_list n k d.now) }
 {
     let mut t = [0i8; DIGITS];
-    let mut j = 0;
-    while j < k {
+    for j in 0..k {
         copy_step(d, 16 * j, &mut t, 16 * j, n);
-        j += 1;
     }
     t
 }

@@ -23,11 +23,9 @@ fn digits_in_order(d: &[i8; DIGITS], n: usize, k: usize) -> [i8; DIGITS]
 {
     let mut e = [0i8; DIGITS];
     let mut to = 0;
-    let mut j = 0;
-    while j < k {
+    for j in 0..k {
         copy_step(d, 16 * j, &mut e, to, 16);
         to += n;
-        j += 1;
     }
     e
 }
@@ -39,11 +37,9 @@ fn write_eights(out: &mut [u8], e: &[i8; DIGITS], g: usize)
     ensures { Appended 30 (digit_fields (digits_from e.now 0 (8 * g))) out.old out.new }
 {
     let mut q = 3;
-    let mut i = 0;
-    while i < g {
+    for i in 0..g {
         bitfields::write_field(out, 8 * q + 6, 40, digits_number(e, 8 * i, 8));
         q += 5;
-        i += 1;
     }
 }
 

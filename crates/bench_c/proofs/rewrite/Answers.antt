@@ -11,4 +11,4 @@ loop-i-preserved c =
     let w = c.write_trace in
     let l = c.loop-i in
     let a = c.args in
-    (omega arith, w.auto.out ∙ l.invariant.1, rewrite_turn a.t l.i _ l.out _ l.invariant.2 w.ensures.buffer)
+    (omega arith, w.auto.out ∙ l.invariant.1, rewrite_turn a.t l._i _ l.out _ l.invariant.2 w.ensures.buffer)

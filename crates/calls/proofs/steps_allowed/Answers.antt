@@ -7,15 +7,15 @@ use Rattle.accuracy.specs.Accuracy.{budgets, advances}
 use Rattle.accuracy.proofs.Runs.{allowed_none, allowed_most, allowed_more}
 use Rattle.calls.proofs.steps_allowed.Goals as goal
 
-pub loop-i-init : goal.loop-i-init
-loop-i-init c = (omega arith, omega arith, allowed_none _ c.args.list.now)
+pub loop-budget-init : goal.loop-budget-init
+loop-budget-init c = (omega arith, omega arith, allowed_none _ c.args.list.now)
 
-pub loop-i-preserved : goal.loop-i-preserved
-loop-i-preserved c =
-    let next : let l = c.loop-i in let a = c.args in
-    (l.made + c.smaller.result ≡ smaller a.last (budgets (advances (take (l.i + 1) a.list.now)))) × (l.made + c.smaller.result ≤ a.last) =
-    let l = c.loop-i in
+pub loop-budget-preserved : goal.loop-budget-preserved
+loop-budget-preserved c =
+    let next : let l = c.loop-budget in let a = c.args in
+    (l.made + c.smaller.result ≡ smaller a.last (budgets (advances (take (l.budget-index + 1) a.list.now)))) × (l.made + c.smaller.result ≤ a.last) =
+    let l = c.loop-budget in
     let a = c.args in
-    let e = allowed_more a.last l.made c.smaller.result a.list.now l.i (omega arith) l.invariant.2 c.smaller.ensures in
+    let e = allowed_more a.last l.made c.smaller.result a.list.now l.budget-index (omega arith) l.invariant.2 c.smaller.ensures in
     (e, allowed_most a.last _ _ e) in
     let n = next in (omega arith, n.1, n.0)

@@ -1,10 +1,7 @@
--- The invariant: the rows below i are chosen. The measure is what is left of the rows.
-use Prim.Native.Nat.{◌-◌, ◌≤◌, ◌^◌}
+-- The invariant: the rows below i are chosen.
+use Prim.Native.Nat.{◌≤◌, ◌^◌}
 use Rattle.choice.proofs.Chosen.{Chosen}
 use Rattle.choice.proofs.choose.Given as goal
 
 abbrev pub invariant-loop-i : goal.invariant-loop-i
 invariant-loop-i l = (l.i ≤ l.n) × Chosen l.k l.r l.q l.p (2 ^ l.f) l.s l.initial.z l.initial.new l.initial.digits l.i l.z l.new l.digits
-
-abbrev pub decreases-loop-i : goal.decreases-loop-i
-decreases-loop-i l = l.n - l.i

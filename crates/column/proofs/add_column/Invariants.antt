@@ -1,5 +1,4 @@
--- The invariant: the rows from lo on and below i have column j added. The measure is what is left of the rows
--- below hi.
+-- The invariant: the rows from lo on and below i have column j added.
 use mathlib.Core.Path.{◌≡◌}
 use Prim.Native.Nat.{◌+◌, ◌-◌, ◌≤◌}
 use Rattle.integers.specs.Flat.{stores}
@@ -8,6 +7,3 @@ use Rattle.column.proofs.add_column.Given as goal
 
 abbrev pub invariant-loop-i : goal.invariant-loop-i
 invariant-loop-i l = (l.lo ≤ l.i) × (l.i - l.lo ≤ l.hi - l.lo) × (l.s ≡ stores l.initial.s (λ t. l.lo + t) (column_added l.g l.j l.lo l.d l.initial.s) (l.i - l.lo))
-
-abbrev pub decreases-loop-i : goal.decreases-loop-i
-decreases-loop-i l = l.hi - l.i

@@ -1,4 +1,4 @@
--- The invariant: the additions of the columns below j. The measure is what is left of the columns.
+-- The invariant: the additions of the columns below j.
 use mathlib.Core.Path.{◌≡◌}
 use Prim.Native.Nat.{◌*◌, ◌-◌, ◌≤◌}
 use lib.ListN.{get_or}
@@ -9,6 +9,3 @@ use Rattle.counts.proofs.additions.Given as goal
 
 abbrev pub invariant-loop-j : goal.invariant-loop-j
 invariant-loop-j l = (l.j ≤ l.n) × (l.a ≡ total l.j (λ i. (get_or l.t i 0 - nonzero (digits_of l.digits l.k i)) * get_or l.e i 0))
-
-abbrev pub decreases-loop-j : goal.decreases-loop-j
-decreases-loop-j l = l.n - l.j

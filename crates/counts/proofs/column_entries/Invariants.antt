@@ -1,12 +1,8 @@
--- The invariant: the entries of the rows below i are counted. Before row lo there are none. The measure is
--- what is left of the rows.
+-- The invariant: the entries of the rows below i are counted. Before row lo there are none.
 use mathlib.Core.Path.{◌≡◌}
-use Prim.Native.Nat.{◌-◌, ◌≤◌}
+use Prim.Native.Nat.{◌≤◌}
 use Rattle.counts.specs.Inner.{column_entries}
 use Rattle.counts.proofs.column_entries.Given as goal
 
 abbrev pub invariant-loop-i : goal.invariant-loop-i
 invariant-loop-i l = (l.lo ≤ l.i) × (l.i ≤ l.n) × (l.c ≡ column_entries l.i l.g l.j)
-
-abbrev pub decreases-loop-i : goal.decreases-loop-i
-decreases-loop-i l = l.hi - l.i

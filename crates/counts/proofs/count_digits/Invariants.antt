@@ -1,5 +1,5 @@
--- The invariant: the digits of the columns below j are counted. The measure is what is left of the columns.
-use Prim.Native.Nat.{◌+◌, ◌-◌, ◌≤◌}
+-- The invariant: the digits of the columns below j are counted.
+use Prim.Native.Nat.{◌+◌, ◌≤◌}
 use Rattle.integers.specs.Flat.{at}
 use Rattle.additions.specs.Additions.{nonzero}
 use Rattle.counts.proofs.Counting.{Counting}
@@ -7,6 +7,3 @@ use Rattle.counts.proofs.count_digits.Given as goal
 
 abbrev pub invariant-loop-j : goal.invariant-loop-j
 invariant-loop-j l = (l.j ≤ l.n) × Counting (λ i x. x + nonzero (at l.d i)) l.initial.times l.j l.times
-
-abbrev pub decreases-loop-j : goal.decreases-loop-j
-decreases-loop-j l = l.n - l.j

@@ -1,6 +1,5 @@
--- The invariant: the columns below j have their count, and the others 0. The measure is what is left of the
--- columns.
-use Prim.Native.Nat.{◌-◌, ◌≤◌}
+-- The invariant: the columns below j have their count, and the others 0.
+use Prim.Native.Nat.{◌≤◌}
 use lib.ListN.{replicate}
 use Rattle.additions.specs.Additions.{nonzero}
 use Rattle.state.specs.State.{digits_of}
@@ -9,6 +8,3 @@ use Rattle.counts.proofs.first_times.Given as goal
 
 abbrev pub invariant-loop-j : goal.invariant-loop-j
 invariant-loop-j l = (l.j ≤ 16) × Counting (λ i x. nonzero (digits_of l.digits l.k i)) (replicate 16 0) l.j l.t
-
-abbrev pub decreases-loop-j : goal.decreases-loop-j
-decreases-loop-j l = 16 - l.j

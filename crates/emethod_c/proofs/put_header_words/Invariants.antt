@@ -1,7 +1,6 @@
--- The invariant: the first i words are those of the header, and the others are as they came. The measure is
--- what is left of the seven.
+-- The invariant: the first i words are those of the header, and the others are as they came.
 use mathlib.Core.Path.{◌≡◌}
-use Prim.Native.Nat.{◌-◌, ◌≤◌}
+use Prim.Native.Nat.{◌≤◌}
 use lib.ListN.{length}
 use lib.Seq.{sets}
 use Rattle.integers.specs.Flat.{list_from}
@@ -10,6 +9,3 @@ use Rattle.emethod_c.proofs.put_header_words.Given as goal
 
 abbrev pub invariant-loop-i : goal.invariant-loop-i
 invariant-loop-i l = (l.i ≤ 7) × (length l.words ≡ length l.initial.words) × (l.words ≡ sets l.initial.words 0 (list_from 0 l.i (word l.h l.k)))
-
-abbrev pub decreases-loop-i : goal.decreases-loop-i
-decreases-loop-i l = 7 - l.i

@@ -1,17 +1,12 @@
-use Rattle.std.proofs.Common.{ap, not}
-use Rattle.std.proofs.Common.{ap, not}
-use native.Mathlib.Omega.{arith}
-use Rattle.integers.proofs.Machine.{i64_kept}
-use Rattle.frame.proofs.Writer.{fit_turn, fit_fails, fit_all}
+use mathlib.Core.Path.{◌≡◌}
+use mathlib.Core.Bool.{true, false}
+use Rattle.std.proofs.Common.{rules, tests}
+use Rattle.std.proofs.lemmas.Iterator.{cases_from_all, YieldsList-from_slice}
+use Rattle.bitfields.specs.Twos.{fitsb}
+use Rattle.frame.proofs.Writer.{fit_told}
 use Rattle.frame.proofs.all_fit.Goals as goal
 
-pub returns-then-not-fits : goal.returns-then-not-fits
-returns-then-not-fits c =
-    fit_fails c.loop-i.invariant (omega arith) (rw (i64_kept _ c.fits-arg-1.given) at c.fits.ensures) (ap not c.if-not-fits.true)
-
-pub loop-i-preserved : goal.loop-i-preserved
-loop-i-preserved c =
-    fit_turn c.loop-i.invariant (omega arith) (rw (i64_kept _ c.fits-arg-1.given) at c.fits.ensures) (ap not c.if-not-fits.false)
-
 pub returns : goal.returns
-returns c = fit_all c.loop-i.invariant (omega arith)
+returns c =
+    fit_told c.args.w c.args.v.now c.all.result
+    (cases_from_all _ _ _ (λ z. fitsb c.args.w z ≡ true) (λ z. fitsb c.args.w z ≡ false) c.all.ensures.ran (YieldsList-from_slice c.args.v.now cc) (λ x q k. search (rules, tests)) (λ x q k. search (rules, tests)))

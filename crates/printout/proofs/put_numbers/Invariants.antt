@@ -1,7 +1,6 @@
--- The loop's invariant: the first i numbers are put, and the buffer keeps its length. The measure is the
--- numbers left.
+-- The loop's invariant: the first i numbers are put, and the buffer keeps its length.
 use mathlib.Core.Path.{◌≡◌}
-use Prim.Native.Nat.{◌-◌, ◌≤◌}
+use Prim.Native.Nat.{◌≤◌}
 use lib.ListN.{length}
 use Rattle.integers.specs.Flat.{at}
 use Rattle.text.specs.Text.{Put}
@@ -10,6 +9,3 @@ use Rattle.printout.proofs.put_numbers.Given as goal
 
 abbrev pub invariant-loop-i : goal.invariant-loop-i
 invariant-loop-i l = (l.i ≤ l.n) × (length l.out ≡ length l.initial.out) × Put l.initial.out l.at (spaced l.i (at l.y)) l.out l.end
-
-abbrev pub decreases-loop-i : goal.decreases-loop-i
-decreases-loop-i l = l.n - l.i

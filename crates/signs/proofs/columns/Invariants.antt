@@ -1,7 +1,6 @@
--- The invariant: the columns below j stand in the table, and their entries are counted. The measure is what
--- is left of the columns.
+-- The invariant: the columns below j stand in the table, and their entries are counted.
 use mathlib.Core.Path.{◌≡◌}
-use Prim.Native.Nat.{◌*◌, ◌-◌, ◌≤◌}
+use Prim.Native.Nat.{◌*◌, ◌≤◌}
 use Rattle.signs.specs.Inner.{Tabulated}
 use Rattle.counts.specs.Inner.{column_entries}
 use Rattle.spans.proofs.ColumnSpan.{Found}
@@ -9,6 +8,3 @@ use Rattle.signs.proofs.columns.Given as goal
 
 abbrev pub invariant-loop-j : goal.invariant-loop-j
 invariant-loop-j l = (l.j ≤ l.n) × Tabulated l.n l.g l.t (16 * l.j) × Found 0 (λ i x. x ≡ column_entries l.n l.g i) l.entries l.j
-
-abbrev pub decreases-loop-j : goal.decreases-loop-j
-decreases-loop-j l = l.n - l.j

@@ -1,12 +1,9 @@
--- The invariant: each row has its sum over the first c places listed. The measure is what is left of them.
+-- The invariant: each row has its sum over the first c places listed.
 use mathlib.Core.Path.{◌≡◌}
-use Prim.Native.Nat.{◌-◌, ◌≤◌}
+use Prim.Native.Nat.{◌≤◌}
 use lib.ListN.{length}
 use Rattle.signs.specs.Inner.{ListedSums}
 use Rattle.signs.proofs.listed_sums.Given as goal
 
 abbrev pub invariant-loop-c : goal.invariant-loop-c
 invariant-loop-c l = (l.c ≤ l.count) × (length l.s ≡ 16) × ListedSums l.t l.list l.c l.s
-
-abbrev pub decreases-loop-c : goal.decreases-loop-c
-decreases-loop-c l = l.count - l.c

@@ -1,11 +1,7 @@
--- The invariant: the rows have their sums over the columns below j. The measure is what is left of the
--- columns.
-use Prim.Native.Nat.{◌-◌, ◌≤◌}
+-- The invariant: the rows have their sums over the columns below j.
+use Prim.Native.Nat.{◌≤◌}
 use Rattle.spans.proofs.ColumnSum.{SoFar}
 use Rattle.spans.proofs.column_sums.Given as goal
 
 abbrev pub invariant-loop-j : goal.invariant-loop-j
 invariant-loop-j l = (l.j ≤ l.n) × SoFar l.n l.j l.g l.d l.initial.s l.s
-
-abbrev pub decreases-loop-j : goal.decreases-loop-j
-decreases-loop-j l = l.n - l.j

@@ -1,6 +1,6 @@
 -- The outer invariant: the marks are those of t steps. The inner one: those of the rows below i are of one
--- step more. The measures are what is left of the steps and of the rows.
-use Prim.Native.Nat.{◌+◌, ◌-◌, ◌≤◌}
+-- step more.
+use Prim.Native.Nat.{◌+◌, ◌≤◌}
 use Rattle.state.specs.Inner.{RowsBeyond}
 use Rattle.state.proofs.Search.{looked}
 use Rattle.state.proofs.rows_beyond.Given as goal
@@ -8,11 +8,5 @@ use Rattle.state.proofs.rows_beyond.Given as goal
 abbrev pub invariant-loop-i : goal.invariant-loop-i
 invariant-loop-i l = (l.i ≤ 16) × RowsBeyond l.bound l.d l.j (looked l.t l.i) l.m
 
-abbrev pub decreases-loop-i : goal.decreases-loop-i
-decreases-loop-i l = 16 - l.i
-
 abbrev pub invariant-loop-t : goal.invariant-loop-t
 invariant-loop-t l = (l.j ≤ l.t) × (l.t ≤ l.j + l.c) × RowsBeyond l.bound l.d l.j (λ i. l.t) l.m
-
-abbrev pub decreases-loop-t : goal.decreases-loop-t
-decreases-loop-t l = l.j + l.c - l.t

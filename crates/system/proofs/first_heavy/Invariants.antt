@@ -1,7 +1,7 @@
 -- The rows before row i are none of them too heavy, and within row i the room left is the limit less the
 -- weight of the entries before j.
 use mathlib.Core.Path.{◌≡◌}
-use Prim.Native.Nat.{◌-◌, ◌≤◌}
+use Prim.Native.Nat.{◌≤◌}
 use Rattle.integers.specs.Flat.{entry}
 use Rattle.integers.specs.Sum.{weight}
 use Rattle.system.proofs.Weighing.{RoomLeft}
@@ -12,11 +12,5 @@ use Rattle.system.proofs.first_heavy.Given as goal
 abbrev pub invariant-loop-j : goal.invariant-loop-j
 invariant-loop-j l = (l.j ≤ l.n) × (l.heavy ≡ 0) × RoomLeft l.limit l.room (weight l.j (entry l.g l.i))
 
-abbrev pub decreases-loop-j : goal.decreases-loop-j
-decreases-loop-j l = l.n - l.j
-
 abbrev pub invariant-rows : goal.invariant-rows
 invariant-rows l = (l.i ≤ l.n) × (l.heavy ≡ 0) × Never l.i (too_heavy l.limit l.n l.g)
-
-abbrev pub decreases-rows : goal.decreases-rows
-decreases-rows l = l.n - l.i

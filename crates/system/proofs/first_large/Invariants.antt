@@ -1,11 +1,8 @@
 -- No right side before row i is too large.
-use Prim.Native.Nat.{◌-◌, ◌≤◌}
+use Prim.Native.Nat.{◌≤◌}
 use Rattle.system.specs.Inner.{too_large}
 use Rattle.system.specs.Rows.{Never}
 use Rattle.system.proofs.first_large.Given as goal
 
 abbrev pub invariant-loop-i : goal.invariant-loop-i
 invariant-loop-i l = (l.i ≤ l.n) × Never l.i (too_large l.most l.z)
-
-abbrev pub decreases-loop-i : goal.decreases-loop-i
-decreases-loop-i l = l.n - l.i

@@ -1,4 +1,4 @@
--- After i rows, i entries hold x.
+-- Before turn i the rows below i - 1 have x after the diagonal.
 use mathlib.Core.Path.{◌≡◌}
 use Prim.Native.Nat.{◌-◌, ◌≤◌}
 use Rattle.integers.specs.Flat.{stores}
@@ -6,7 +6,4 @@ use Rattle.system.proofs.Setup.{argument_place}
 use Rattle.system.proofs.place_argument.Given as goal
 
 abbrev pub invariant-loop-i : goal.invariant-loop-i
-invariant-loop-i l = (l.i ≤ l.n - 1) × (l.g ≡ stores l.initial.g argument_place (λ t. l.x) l.i)
-
-abbrev pub decreases-loop-i : goal.decreases-loop-i
-decreases-loop-i l = l.n - l.i
+invariant-loop-i l = (l.i - 1 ≤ l.n - 1) × (l.g ≡ stores l.initial.g argument_place (λ t. l.x) (l.i - 1))

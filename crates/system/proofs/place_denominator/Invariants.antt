@@ -1,4 +1,4 @@
--- After i rows, the second to the i-th hold their coefficients.
+-- Before row i the rows from 1 on hold their coefficients.
 use mathlib.Core.Path.{◌≡◌}
 use Prim.Native.Nat.{◌+◌, ◌-◌, ◌≤◌}
 use lib.IntN.{neg_ℤ}
@@ -8,7 +8,4 @@ use Rattle.system.proofs.Setup.{denominator_place}
 use Rattle.system.proofs.place_denominator.Given as goal
 
 abbrev pub invariant-loop-i : goal.invariant-loop-i
-invariant-loop-i l = (l.i ≤ l.n - 1) × (l.g ≡ stores l.initial.g denominator_place (λ t. neg_ℤ (denominator l.n l.v (t + 1))) l.i)
-
-abbrev pub decreases-loop-i : goal.decreases-loop-i
-decreases-loop-i l = l.n - l.i
+invariant-loop-i l = (l.i - 1 ≤ l.n - 1) × (l.g ≡ stores l.initial.g denominator_place (λ t. neg_ℤ (denominator l.n l.v (t + 1))) (l.i - 1))

@@ -1,6 +1,6 @@
 -- After i rows the first i places hold their right-hand sides, and the next one is known.
 use mathlib.Core.Path.{◌≡◌}
-use Prim.Native.Nat.{◌-◌, ◌≤◌}
+use Prim.Native.Nat.{◌≤◌}
 use lib.IntN.{pos}
 use lib.ListN.{replicate}
 use Rattle.integers.specs.Flat.{stores}
@@ -11,6 +11,3 @@ use Rattle.system.proofs.right_sides.Given as goal
 
 abbrev pub invariant-loop-i : goal.invariant-loop-i
 invariant-loop-i l = (1 ≤ l.i) × (l.i ≤ l.n) × (l.place ≡ right_place (kind_of l.kind) l.n l.i) × Apart (kind_of l.kind) l.n l.stride × (l.z ≡ stores (replicate 16 (pos 0)) (λ t. t) (right_side (kind_of l.kind) l.n l.v) l.i)
-
-abbrev pub decreases-loop-i : goal.decreases-loop-i
-decreases-loop-i l = l.n - l.i

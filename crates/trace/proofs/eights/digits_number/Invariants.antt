@@ -8,6 +8,3 @@ use Rattle.trace.proofs.eights.digits_number.Given as goal
 
 abbrev pub invariant-loop-x : goal.invariant-loop-x
 invariant-loop-x l = (l.x ≤ 8) × (l.v < 2 ^ (5 * l.x)) × (l.v / 2 ^ (5 * (l.x - l.c)) ≡ number (digit_fields (digits_from l.d l.at (min l.x l.c))))
-
-abbrev pub decreases-loop-x : goal.decreases-loop-x
-decreases-loop-x l = 8 - l.x
