@@ -29,8 +29,10 @@ fn probe<'a>(g: &'a [i64; ENTRIES], z: &'a [i64; ROWS], row: usize, column: usiz
 pub extern "C" fn bench_probe_load(frame: &[u8], row: usize, column: usize) -> i64
     ensures { result ≡ probed (loaded frame.now).state.g (loaded frame.now).state.z row column }
 {
-    let l = evaluator::load(frame);
-    probe(&l.state.g, &l.state.z, row, column)
+    match evaluator::load(frame) {
+        Ok(s) => probe(&s.g, &s.z, row, column),
+        Err(_) => 0,
+    }
 }
 
 // Writes a record, and then so many times more into the same bytes. The writer is called from two places, so
@@ -38,20 +40,21 @@ pub extern "C" fn bench_probe_load(frame: &[u8], row: usize, column: usize) -> i
 fn rewrite(t: Record, more: u64, out: &mut [u8]) -> usize
     ensures { Rewrites t more out.old result out.new }
 {
-    let w = trace::write_trace(t, out);
-    for _i in 0..more {
-        trace::write_trace(t, out);
+    let size = trace::write_trace(t, out).unwrap_or(0);
+    for _ in 0..more {
+        let _ = trace::write_trace(t, out);
     }
-    w.length
+    size
 }
 
 // Reads a trace once, writes it back, and then so many times more. The bytes of the trace are given; 0 where
-// it is refused, since the writer takes no record of zeros.
+// it is refused, and then nothing is written.
 #[unsafe(no_mangle)]
 pub extern "C" fn bench_rewrite_trace(trace: &[u8], more: u64, out: &mut [u8]) -> usize
     ensures { Rewrites (trace_reader_answer trace.now).trace more out.old result out.new }
 {
-    let c = trace::read_trace(trace);
-    let t = c.trace;
-    rewrite(t, more, out)
+    match trace::read_trace(trace) {
+        Ok(t) => rewrite(t, more, out),
+        Err(_) => 0,
+    }
 }

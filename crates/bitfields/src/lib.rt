@@ -17,20 +17,6 @@ ghost use Rattle.std.specs.Int.Signed.{mag};
 ghost use Rattle.bitfields.specs.Layout.{bytes_for, fill, number8, octets, field, put, each};
 ghost use Rattle.bitfields.specs.Twos.{encode, decode, Fits, fitsb, AllFit, numbers};
 
-// A byte as a word, and a word that is a byte.
-fn from_byte(x: u8) -> u64
-    ensures { result ≡ x }
-{
-    x as u64
-}
-
-fn to_byte(x: u64) -> u8
-    requires { x < 256 }
-    ensures { result ≡ x }
-{
-    x as u8
-}
-
 // The number that n bytes from the byte `at` on spell.
 pub fn read_bytes(s: &[u8], at: usize, n: usize) -> u64
     requires { (at + n ≤ length s.now) × (n ≤ 8) }
@@ -38,7 +24,7 @@ pub fn read_bytes(s: &[u8], at: usize, n: usize) -> u64
 {
     let mut x: u64 = 0;
     for j in 0..n {
-        x = x * 256 + from_byte(s[at + j]);
+        x = x * 256 + u64::from(s[at + j]);
     }
     x
 }
@@ -76,7 +62,7 @@ pub fn write_bytes(s: &mut [u8], at: usize, n: usize, x: u64)
     ensures { s.new ≡ take at s.old ++ octets n x ++ drop (at + n) s.old }
 {
     for j in 0..n {
-        s[at + j] = to_byte((x >> ((8 * (n - 1 - j)) as u64)) % 256);
+        s[at + j] = ((x >> ((8 * (n - 1 - j)) as u64)) % 256) as u8;
     }
 }
 
@@ -106,7 +92,7 @@ pub fn write_field(s: &mut [u8], at: usize, w: usize, v: u64)
     let k = at / 8;
     let r = at % 8;
     let n = (r + w + 7) / 8;
-    let kept = from_byte(s[k]) >> ((8 - r) as u64);
+    let kept = u64::from(s[k]) >> ((8 - r) as u64);
     let x = (kept * integers::pow2(w) + v) * integers::pow2(8 * n - (r + w));
     write_window(s, k, n, x);
 }
@@ -183,5 +169,5 @@ pub fn fill_is_zero(s: &[u8], b: usize) -> bool
     requires { (bytes_for b ≡ length s.now) × (0 < b) }
     ensures { result ≡ eqb (field s.now b (fill b)) 0 }
 {
-    from_byte(s[s.len() - 1]) % integers::pow2((8 - b % 8) % 8) == 0
+    u64::from(s[s.len() - 1]) % integers::pow2((8 - b % 8) % 8) == 0
 }

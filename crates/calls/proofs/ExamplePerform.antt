@@ -22,7 +22,7 @@ use Rattle.scale.specs.Scale.{every}
 use Rattle.accuracy.specs.Accuracy as calls
 use Rattle.accuracy.specs.Accuracy.{Call, advance, readings, budgets}
 use Rattle.calls.specs.Perform.{room_of, calls_of, room_of_all, parts_after, Untouched, Performed}
-use Rattle.calls.specs.declared.Evaluated.{Evaluated}
+use Rattle.calls.specs.Promise.{Evaluated}
 use Rattle.evaluator.proofs.ExamplePastOrder.{frame_A}
 use Rattle.accuracy.proofs.ExampleA.{accepted_A, frame_D}
 

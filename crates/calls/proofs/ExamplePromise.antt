@@ -14,7 +14,7 @@ use Rattle.frame.specs.Frame.{frame_checks}
 use Rattle.scale.specs.Scale.{every}
 use Rattle.accuracy.specs.Accuracy.{advance, readings, budgets, after}
 use Rattle.calls.specs.Promise.{Promise}
-use Rattle.calls.specs.declared.Evaluated.{Evaluated}
+use Rattle.calls.specs.Promise.{Evaluated}
 use Rattle.evaluator.proofs.ExamplePastOrder.{frame_A}
 use Rattle.accuracy.proofs.ExampleA.{calls_A, accepted_A, values_A, exact_A, readings_A, frame_D}
 

@@ -20,7 +20,7 @@ use Rattle.job.specs.declared.Header.{Header}
 use Rattle.state.specs.State.{state_checks}
 use Rattle.state.specs.declared.State.{State}
 use Rattle.evaluator.specs.Evaluator.{smaller, steps_made, advanced, state_reading, readings_checks, readings_refusal, readings_list}
-use Rattle.evaluator.specs.declared.Advanced.{Advanced}
+use Rattle.evaluator.specs.Evaluator.{Advanced}
 use Rattle.stepping.proofs.Steps.{steps-header}
 use Rattle.stepping.proofs.Additions.{additions-small}
 use Rattle.evaluator.proofs.Kept.{passes_exactly}

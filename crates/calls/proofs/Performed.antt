@@ -13,7 +13,7 @@ use Rattle.header.specs.Header.{header_of}
 use Rattle.state.specs.State.{fresh, state_checks}
 use Rattle.evaluator.specs.Evaluator.{loaded, readings_refusal, readings_list}
 use Rattle.stepping.specs.Steps.{steps}
-use Rattle.evaluator.specs.declared.Loaded.{Loaded}
+use Rattle.evaluator.specs.Evaluator.{Loaded}
 use Rattle.evaluator.proofs.Kept.{fresh_start, loaded-passes}
 use Rattle.evaluator.proofs.Theorems.{accepted_load}
 use Rattle.accuracy.specs.Accuracy.{order, after, Call, readings}

@@ -4,7 +4,6 @@ use mathlib.Core.Bool.{true}
 use mathlib.Core.List.{List, [], ◌∷◌, ◌++◌}
 use Prim.Native.Nat.{ℕ, ◌<◌, ◌≤◌}
 use native.Mathlib.Omega.{arith}
-use borrow.Author.Tests.{lt-ltb, le-ltb}
 use lib.IntN.{ℤ, pos}
 use lib.ListN.{length, drop, replicate}
 use Rattle.integers.specs.Flat.{at, list_from}
@@ -23,12 +22,13 @@ use Rattle.state.specs.Inner.{state_of}
 use Rattle.state.specs.declared.State.{State}
 use Rattle.evaluator.specs.Evaluator.{loaded, smaller, state_reading, readings_refusal, readings_list}
 use Rattle.stepping.specs.Steps.{steps, steps_additions}
-use Rattle.evaluator.specs.declared.Loaded.{Loaded}
+use Rattle.evaluator.specs.Evaluator.{Loaded}
 use Rattle.stepping.specs.Inner.{MayStep}
 use Rattle.evaluator.proofs.Kept.{fresh_start, loaded-passes-limits, loaded-passes}
 use Rattle.stepping.proofs.Kept.{steps_pass_limits}
 use Rattle.evaluator.specs.Inner.{MayReadRows}
-use Rattle.evaluator.proofs.Calls.{readings_refuses, readings_writes}
+use Rattle.evaluator.proofs.Calls.{readings_refuses, readings_writes, room_decides, reads_none_decides}
+use Rattle.job.specs.declared.refusals.Refused.TheVariants.{TooLittleRoom}
 use Rattle.stepping.proofs.Steps.{steps-header, steps-scale, steps_k}
 use Rattle.evaluator.proofs.Horner.{may_read_rows}
 use Rattle.stepping.proofs.Stepping.{fresh_whole}
@@ -153,8 +153,8 @@ module _ (frame list : List ℕ) (given : List ℤ) (l : Loaded) (e : l ≡ load
 
         pub promise_short : length given < job.header.n → Promise frame list given (record { refusal = 23; row = 0; scale = job.scale; made = made; additions = a }) given
         promise_short m =
-            let r = readings_refuses done given 0 23 (sym (passes made made-most)) (rw (steps-header job made, lt-ltb (length given) job.header.n m) refl) (λ q. omega arith) in
-            with_made 23 given r.0 r.1
+            let r = room_decides done (length given) (sym (passes made made-most)) (rw (steps-header job made) m) in
+            with_made 23 given r (readings_refuses done given TooLittleRoom r)
 
       -- and the digits, in `ds`, can be read
       module _ (ds : List ℤ) (ed : ds ≡ (steps (state_of true job.header job.scale 0 job.g job.z (replicate 960 (pos 0))) made).digits) where
@@ -170,6 +170,5 @@ module _ (frame list : List ℕ) (given : List ℤ) (l : Loaded) (e : l ≡ load
             → final ≡ list_from 0 job.header.n (reading (radix job.header.code) (digits_of ds) made) ++ drop job.header.n given
             → Promise frame list given (record { refusal = 0; row = 0; scale = job.scale; made = made; additions = a }) final
         promise_done a ea final m el =
-            let r = readings_writes done given 0 0 (sym (passes made made-most)) (rw (steps-header job made, le-ltb (length given) job.header.n m) refl)
-            final refl (readings_of done given (steps-header job made) k_is digits_are el) in
-            with_made a ea 0 final r.0 r.1
+            let r = reads_none_decides done (length given) (sym (passes made made-most)) (rw (steps-header job made) m) in
+            with_made a ea 0 final r (readings_writes done given r final (readings_of done given (steps-header job made) k_is digits_are el))

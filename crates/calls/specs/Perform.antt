@@ -1,7 +1,7 @@
 -- Lists of calls as words, two words a call, with one list lent for all the readings (document 01, "Calls"):
 -- each readings call gets the next part of it. `Performed` is what `perform` of src/one_by_one.rt ensures.
 use mathlib.Core.{Path.◌≡◌, List.List, List.[], List.◌∷◌, List.◌++◌}
-use Rattle.std.specs.Prelude.{ℕ, zero, suc, ◌+◌, ◌<◌, ◌≤◌}
+use Rattle.std.specs.Prelude.{ℕ, zero, suc, ◌+◌, ◌<◌, ◌≤◌, Result, Ok, Err}
 use lib.{IntN.ℤ, ListN.length, ListN.take, ListN.drop}
 use Rattle.integers.specs.Flat.{at}
 use Rattle.frame.specs.Frame.{frame_refusal}
@@ -9,7 +9,9 @@ use Rattle.recurrence.specs.Recurrence.{reading}
 use Rattle.state.specs.declared.State.{State}
 use Rattle.evaluator.specs.Evaluator.{loaded, smaller, readings_list}
 use Rattle.accuracy.specs.Accuracy.{order, radix_of, last_step_of, true_digit, after, additions_made, Accurate, Call, advance, readings, state_after, budgets}
-use Rattle.calls.specs.{declared.Evaluated.Evaluated, Promise.refused_evaluated}
+use Rattle.calls.specs.Promise.{Evaluated, refused_evaluated}
+use Rattle.job.specs.declared.refusals.Refused.{Refused}
+use Rattle.evaluator.specs.declared.Steps.{Steps}
 
 -- ---- the calls that words name; `given` is what is left of the list lent
 
@@ -18,6 +20,11 @@ use Rattle.calls.specs.{declared.Evaluated.Evaluated, Promise.refused_evaluated}
 abbrev pub call_of : ℕ → ℕ → List ℤ → Call
 call_of zero budget given = advance budget
 call_of (suc kind) room given = readings (take room given)
+
+-- the additions that an advance counted, 0 where it was refused
+abbrev pub counted : Result Steps Refused → ℕ
+counted (Ok d) = d.additions
+counted (Err e) = 0
 
 -- how many words of the list a call gets
 abbrev pub room_of : Call → ℕ

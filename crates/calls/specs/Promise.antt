@@ -1,14 +1,43 @@
 -- What `evaluate` of src/lib.rt ensures: its answer and every word of its list are the definitions', and
 -- demand 3 holds of the calls that it stands for.
 use mathlib.Core.{Path.◌≡◌, List.List, List.[], List.◌∷◌, List.◌++◌}
-use Rattle.std.specs.Prelude.{ℕ, ◌<◌, ◌≤◌}
+use Rattle.std.specs.Prelude.{ℕ, ◌<◌, ◌≤◌, Option, None, Some}
 use lib.{IntN.ℤ, ListN.length}
 use Rattle.integers.specs.Flat.{at}
 use Rattle.frame.specs.Frame.{frame_refusal, frame_row, frame_numbers}
 use Rattle.header.specs.Header.{header_of}
 use Rattle.evaluator.specs.Evaluator.{readings_refusal, readings_list}
 use Rattle.accuracy.specs.Accuracy.{order, last_step_of, DigitCount, after, additions_made, Accurate, readings, budgets, advances}
-use Rattle.calls.specs.declared.Evaluated.{Evaluated}
+use Rattle.job.specs.{Refused.number_of, Refused.row_of, declared.refusals.Refused.Refused}
+use Rattle.calls.specs.declared.Evaluation.{Evaluation}
+
+-- the answer in document 01's numbers: a refusal number, 0 where there is none, the row given with it, the scale,
+-- the steps made, and their additions
+pub record Evaluated : Type 0 where
+  pub refusal : ℕ
+  pub row : ℕ
+  pub scale : ℕ
+  pub made : ℕ
+  pub additions : ℕ
+
+-- what the code's answer says in these numbers
+abbrev pub given_number : Option Refused → ℕ
+given_number None = 0
+given_number (Some e) = number_of e
+
+abbrev pub given_row : Option Refused → ℕ
+given_row None = 0
+given_row (Some e) = row_of e
+
+abbrev pub evaluated : Evaluation → Evaluated
+evaluated r =
+    record {
+      refusal = given_number r.refusal;
+      row = given_row r.refusal;
+      scale = r.scale;
+      made = r.made;
+      additions = r.additions;
+    }
 
 -- the answer to a refused frame: its number and row, no step made and no addition
 abbrev pub refused_evaluated : List ℕ → Evaluated

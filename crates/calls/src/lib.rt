@@ -7,19 +7,20 @@
 ghost use Rattle.std.specs.Prelude.{◌≡◌, ◌≤◌};
 ghost use Rattle.evaluator.specs.Evaluator.{smaller};
 ghost use Rattle.accuracy.specs.Accuracy.{budgets, advances};
-ghost use Rattle.calls.specs.Promise.{Promise};
+ghost use Rattle.calls.specs.Promise.{evaluated, Promise};
 
 mod one_by_one; // one_by_one.rt: a list of calls, made one by one
 
+use job::Refused;
 pub use one_by_one::perform;
 use state::DIGITS;
 
-// A refusal number, 0 where there is none, the row given with it, the scale s, the steps made, k, and the
-// additions that they cost. A reading stands for itself divided by r^k and multiplied by r^s.
-#[derive(Clone, Copy)]
-pub struct Evaluated {
-    pub refusal: usize,
-    pub row: usize,
+// What is evaluated: why it is refused, where it is, the scale s, the steps made, k, and the additions that they
+// cost. A reading stands for itself divided by r^k and multiplied by r^s. Of a frame that is not loaded the
+// counts are 0.
+#[derive(Clone, Copy, PartialEq, Eq, Debug)]
+pub struct Evaluation {
+    pub refusal: Option<Refused>,
     pub scale: usize,
     pub made: usize,
     pub additions: usize,
@@ -33,47 +34,51 @@ fn steps_allowed(list: &[u64], last: usize) -> usize
 {
     let mut made: usize = 0;
     for budget in list {
-        made = made + evaluator::smaller(*budget, (last - made) as u64) as usize;
+        made += (*budget).min((last - made) as u64) as usize;
     }
     made
+}
+
+// The answer to a frame that is not loaded.
+pub(crate) fn not_loaded(e: Refused) -> Evaluation
+    ensures { result ≡ record { refusal = Some e; scale = 0; made = 0; additions = 0 } }
+{
+    Evaluation {
+        refusal: Some(e),
+        scale: 0,
+        made: 0,
+        additions: 0,
+    }
 }
 
 // Loads a frame, makes the steps that an advance for each budget makes, and writes a reading for each row
 // to `out`. Refused as load is, by 1 to 8 and 15, and then as readings are, by 23; a refusal changes no word
 // of `out`. The steps of all advances are made at once, and a state that load made is not looked at again.
 // With 23 the steps are made too, as the advances make them, and counted.
-pub fn evaluate(frame: &[u8], budgets: &[u64], out: &mut [i64]) -> Evaluated
-    ensures { Promise frame.now budgets.now out.old result out.new }
+pub fn evaluate(frame: &[u8], budgets: &[u64], out: &mut [i64]) -> Evaluation
+    ensures { Promise frame.now budgets.now out.old (evaluated result) out.new }
 {
-    let l = evaluator::load(frame);
-    if 0 < l.refusal {
-        return Evaluated {
-            refusal: l.refusal,
-            row: l.row,
-            scale: 0,
-            made: 0,
-            additions: 0,
-        };
-    }
-    let h = l.state.header;
-    let scale = l.state.scale;
+    let s = match evaluator::load(frame) {
+        Ok(s) => s,
+        Err(e) => return not_loaded(e),
+    };
+    let h = s.header;
+    let scale = s.scale;
     let made = steps_allowed(budgets, job::last_step(h, scale));
-    let mut z = l.state.z;
+    let mut z = s.z;
     let mut digits = [0i8; DIGITS]; // as those of a fresh job are
-    let additions = stepping::make_steps(h, scale, 0, made, &l.state.g, &mut z, &mut digits);
+    let additions = stepping::make_steps(h, scale, 0, made, &s.g, &mut z, &mut digits);
     if out.len() < h.n {
-        return Evaluated {
-            refusal: 23,
-            row: 0,
+        return Evaluation {
+            refusal: Some(Refused::TooLittleRoom),
             scale,
             made,
             additions,
         };
     }
     evaluator::put_readings(h, made, &digits, out);
-    Evaluated {
-        refusal: 0,
-        row: 0,
+    Evaluation {
+        refusal: None,
         scale,
         made,
         additions,

@@ -5,9 +5,12 @@ ghost use Rattle.std.specs.Prelude.{◌≡◌, ◌++◌, drop};
 ghost use Rattle.job.specs.Refusal.{first_refusal};
 ghost use Rattle.state.specs.State.{state_checks};
 ghost use Rattle.accuracy.specs.Accuracy.{state_after, run, call_additions, calls_additions};
-ghost use Rattle.calls.specs.Perform.{call_of, room_of, calls_of, part_after, list_after, Performed};
+ghost use Rattle.calls.specs.Promise.{evaluated};
+ghost use Rattle.calls.specs.Perform.{counted, call_of, room_of, calls_of, part_after, list_after, Performed};
 
-use crate::Evaluated;
+use crate::{Evaluation, not_loaded};
+use evaluator::Steps;
+use job::Refused;
 use state::State;
 
 // What a call leaves: the state, the additions that it counted, and how many words of the list it got.
@@ -25,6 +28,16 @@ struct AllMade {
     additions: usize,
 }
 
+// The additions that an advance counted, 0 where it was refused.
+fn additions(steps: Result<Steps, Refused>) -> usize
+    ensures { result ≡ counted steps }
+{
+    match steps {
+        Ok(d) => d.additions,
+        Err(_) => 0,
+    }
+}
+
 // Makes one call: advance by `value` where `kind` is 0, and else readings, which get the first `value` words
 // of the list, or all of it where it has fewer.
 fn make_call(s: State, kind: u64, value: u64, list: &mut [i64]) -> Made
@@ -32,16 +45,15 @@ fn make_call(s: State, kind: u64, value: u64, list: &mut [i64]) -> Made
     ensures list { list.new ≡ part_after s (call_of kind value list.old) ++ drop (room_of (call_of kind value list.old)) list.old }
 {
     if kind == 0 {
-        let a = evaluator::advance(s, value);
-        let t = a.state;
+        let (t, steps) = evaluator::advance(s, value);
         return Made {
             state: t,
-            additions: a.additions,
+            additions: additions(steps),
             room: 0,
         };
     }
-    let room = evaluator::smaller(value, list.len() as u64) as usize;
-    evaluator::readings(s, &mut list[..room]);
+    let room = value.min(list.len() as u64) as usize;
+    let _ = evaluator::readings(s, &mut list[..room]);
     Made {
         state: s,
         additions: 0,
@@ -79,24 +91,16 @@ fn make_calls(s: State, words: &[u64], list: &mut [i64]) -> AllMade
 // fewer are; an odd word at the end is no call. Refused as load is, by 1 to 8 and 15: no call is then made,
 // and no word of `out` changed. A call of the list that is refused changes nothing, and those after it are
 // made.
-pub fn perform(frame: &[u8], words: &[u64], out: &mut [i64]) -> Evaluated
-    ensures { Performed frame.now words.now out.old result out.new }
+pub fn perform(frame: &[u8], words: &[u64], out: &mut [i64]) -> Evaluation
+    ensures { Performed frame.now words.now out.old (evaluated result) out.new }
 {
-    let l = evaluator::load(frame);
-    if 0 < l.refusal {
-        return Evaluated {
-            refusal: l.refusal,
-            row: l.row,
-            scale: 0,
-            made: 0,
-            additions: 0,
-        };
-    }
-    let s = l.state;
+    let s = match evaluator::load(frame) {
+        Ok(s) => s,
+        Err(e) => return not_loaded(e),
+    };
     let m = make_calls(s, words, out);
-    Evaluated {
-        refusal: 0,
-        row: 0,
+    Evaluation {
+        refusal: None,
         scale: m.state.scale,
         made: m.state.k,
         additions: m.additions,

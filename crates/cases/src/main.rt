@@ -8,14 +8,14 @@
 
 mod table;
 
-ghost use Rattle.std.specs.Prelude.{◌≡◌, true, ◌+◌, ◌≤◌, ◌<◌, pos, IfOk};
+ghost use Rattle.std.specs.Prelude.{◌≡◌, true, ◌+◌, ◌≤◌, ◌<◌, pos, IfOk, IfSome};
 ghost use Rattle.frame.specs.Frame.{most_bytes};
 ghost use Rattle.cases.specs.Words.{word_at, Said, Listed};
 
-use emethod::State;
-use job::NUMBERS;
+use emethod::{Refused, State};
+use job::{NUMBERS, ROWS};
 use state::DIGITS;
-use std::io;
+use std::{fmt, io};
 use table::{LINE, Lines, WORDS};
 
 // The bytes of the longest frame and of the longest trace.
@@ -32,7 +32,6 @@ const FAR: usize = 10000;
 // What differs first between a run and its row.
 #[derive(Clone, Copy)]
 enum Part {
-    Nothing,
     Refusal,
     Row,
     Scale,
@@ -40,6 +39,20 @@ enum Part {
     Digits,
     Readings,
     Trace,
+}
+
+impl fmt::Display for Part {
+    fn fmt<W: fmt::Write>(&self, f: &mut fmt::Formatter<W>) -> fmt::Result {
+        match self {
+            Part::Refusal => write!(f, "refusal"),
+            Part::Row => write!(f, "row"),
+            Part::Scale => write!(f, "scale"),
+            Part::Numbers => write!(f, "numbers"),
+            Part::Digits => write!(f, "digits"),
+            Part::Readings => write!(f, "readings"),
+            Part::Trace => write!(f, "trace"),
+        }
+    }
 }
 
 // The word at a place, and 0 past the last.
@@ -104,12 +117,25 @@ fn same_list(t: &Lines, place: usize, v: &[i64], n: usize) -> bool
     if v.len() < n || !says(t, place, n) {
         return false;
     }
-    for i in 0..n {
-        if word(t, place + 1 + i) != v[i] {
+    for (i, z) in v[..n].iter().enumerate() {
+        if word(t, place + 1 + i) != *z {
             return false;
         }
     }
     true
+}
+
+// Holds the refusal at a place and its row, which stands after it, against the call's, 0 and 0 where there is none.
+fn check_refusal(t: &Lines, place: usize, refusal: Option<Refused>) -> Result<(), Part>
+    requires { place ≤ 12000 }
+{
+    if !says(t, place, refusal.map_or(0, |e| e.number())) {
+        return Err(Part::Refusal);
+    }
+    if !says(t, place + 1, refusal.map_or(0, |e| e.row())) {
+        return Err(Part::Row);
+    }
+    Ok(())
 }
 
 // Whether the refusal and the row at a place are those of the frame reader, and the list after the scale the
@@ -118,18 +144,15 @@ fn same_numbers(t: &Lines, place: usize, frame: &[u8]) -> bool
     requires { place ≤ 12000 }
 {
     let mut v = [0i64; NUMBERS];
-    let a = emethod::read_frame(frame, &mut v);
-    if !says(t, place, a.refusal) || !says(t, place + 1, a.row) {
+    let header = emethod::read_frame(frame, &mut v);
+    if check_refusal(t, place, header.err()).is_err() {
         return false;
     }
-    if a.refusal != 0 {
-        return same_list(t, place + 3, &v, 0);
+    match header {
+        Ok(h) if 1 <= h.n && h.n <= ROWS => same_list(t, place + 3, &v, job::count(h)),
+        Ok(_) => false,
+        Err(_) => same_list(t, place + 3, &v, 0),
     }
-    let h = a.header;
-    if h.n < 1 || 16 < h.n {
-        return false;
-    }
-    same_list(t, place + 3, &v, job::count(h))
 }
 
 // A byte as a number with a sign.
@@ -139,47 +162,31 @@ fn widened(x: u8) -> i64
     word_of(x as usize)
 }
 
-// The bytes of a trace as numbers with a sign.
-fn trace_words(b: &[u8; TRACE_BYTES]) -> [i64; TRACE_BYTES] {
-    let mut out = [0i64; TRACE_BYTES];
-    for i in 0..TRACE_BYTES {
-        out[i] = widened(b[i]);
-    }
-    out
-}
-
-// The digits of the row i of k steps, and zeros after them.
+// The digits of the row i of the first k steps, and zeros after them.
 fn row_digits(d: &[i8; DIGITS], i: usize, k: usize) -> [i64; 60] {
     let mut out = [0i64; 60];
-    if 16 <= i {
-        return out;
-    }
-    for j in 0..60 {
-        if k <= j {
-            return out;
-        }
-        out[j] = integers::widen(d[16 * j + i]);
+    for (z, step) in out.iter_mut().zip(d.chunks(ROWS)).take(k) {
+        *z = step.get(i).map_or(0, |d| i64::from(*d));
     }
     out
 }
 
-// The place after the rows of digits, where they are those of the state, n rows of k steps, and else 0.
-fn past_same_digits(t: &Lines, place: usize, d: &[i8; DIGITS], n: usize, k: usize) -> usize
+// The place after the rows of digits, where they are those of the state, n rows of k steps.
+fn past_same_digits(t: &Lines, place: usize, d: &[i8; DIGITS], n: usize, k: usize) -> Option<usize>
     requires { place ≤ 12000 }
-    ensures { result ≤ 12001 }
+    ensures { IfSome result (λ p. p ≤ 12001) }
 {
     if !says(t, place, n) {
-        return 0;
+        return None;
     }
     let mut p = place + 1;
     for i in 0..n {
-        let row = row_digits(d, i, k);
-        if !same_list(t, p, &row, k) {
-            return 0;
+        if !same_list(t, p, &row_digits(d, i, k), k) {
+            return None;
         }
         p = past(t, p);
     }
-    p
+    Some(p)
 }
 
 // Whether the list at a place is the readings of the state, none with a refusal.
@@ -187,12 +194,15 @@ fn same_readings(t: &Lines, place: usize, s: State) -> bool
     requires { place ≤ 20000 }
 {
     let mut v = [0i64; 16];
-    let n = s.header.n;
-    let refusal = emethod::readings(s, &mut v);
-    if refusal != 0 {
-        return same_list(t, place, &v, 0);
+    match emethod::readings(s, &mut v) {
+        Ok(()) => same_list(t, place, &v, s.header.n),
+        Err(_) => same_list(t, place, &v, 0),
     }
-    same_list(t, place, &v, n)
+}
+
+// Puts the bytes of the state's trace into the buffer, and gives their number.
+fn put_trace(s: State, out: &mut [u8]) -> Result<usize, Refused> {
+    emethod::write_trace(emethod::record_of(s)?, out)
 }
 
 // Whether the list at a place is the bytes of the state's trace, none with a refusal.
@@ -200,43 +210,34 @@ fn same_trace(t: &Lines, place: usize, s: State) -> bool
     requires { place ≤ 20000 }
 {
     let mut out = [0u8; TRACE_BYTES];
-    let r = emethod::record_of(s);
-    let w = emethod::write_trace(r.trace, &mut out);
-    let words = trace_words(&out);
-    same_list(t, place, &words, w.length)
+    let length = put_trace(s, &mut out).unwrap_or(0);
+    same_list(t, place, &out.map(widened), length)
 }
 
-// What differs first, of a frame and the row whose refusal stands at the place. With a refusal the state is
-// idle: its scale is 0, it has no rows and no steps, and no readings and no trace are handed out.
-fn difference(t: &Lines, place: usize, frame: &[u8]) -> Part
+// Holds a frame against the row whose refusal stands at the place; the error is what differs first. With a refusal
+// the state is idle: its scale is 0, it has no rows and no steps, and no readings and no trace are handed out.
+fn check_case(t: &Lines, place: usize, frame: &[u8]) -> Result<(), Part>
     requires { place ≤ 12000 }
 {
-    let l = emethod::load(frame);
-    if !says(t, place, l.refusal) {
-        return Part::Refusal;
-    }
-    if !says(t, place + 1, l.row) {
-        return Part::Row;
-    }
-    if !says(t, place + 2, l.state.scale) {
-        return Part::Scale;
+    let loaded = emethod::load(frame);
+    check_refusal(t, place, loaded.err())?;
+    let job = loaded.unwrap_or(emethod::idle());
+    if !says(t, place + 2, job.scale) {
+        return Err(Part::Scale);
     }
     if !same_numbers(t, place, frame) {
-        return Part::Numbers;
+        return Err(Part::Numbers);
     }
-    let a = emethod::advance(l.state, 60);
-    let s = a.state;
-    let readings = past_same_digits(t, past(t, place + 3), &s.digits, s.header.n, s.k);
-    if readings == 0 {
-        return Part::Digits;
-    }
+    let (s, _) = emethod::advance(job, 60);
+    let rows = past(t, place + 3);
+    let readings = past_same_digits(t, rows, &s.digits, s.header.n, s.k).ok_or(Part::Digits)?;
     if !same_readings(t, readings, s) {
-        return Part::Readings;
+        return Err(Part::Readings);
     }
     if !same_trace(t, past(t, readings), s) {
-        return Part::Trace;
+        return Err(Part::Trace);
     }
-    Part::Nothing
+    Ok(())
 }
 
 // A word as a byte, as all words of a frame are.
@@ -250,40 +251,21 @@ fn frame_bytes(t: &Lines, place: usize) -> [u8; FRAME_BYTES]
 {
     let n = size(t, place);
     let mut out = [0u8; FRAME_BYTES];
-    for i in 0..n {
-        out[i] = byte(word(t, place + 1 + i));
+    for (i, b) in out.iter_mut().take(n).enumerate() {
+        *b = byte(word(t, place + 1 + i));
     }
     out
 }
 
-fn print_text(rt: &impl Print, s: &str) -> io::Result<()> {
-    print!(rt; "{s}")
-}
-
-// The line of a case that differs, which counts as one.
-fn differs(rt: &impl Print, number: usize, what: &str) -> io::Result<u64>
-    ensures { IfOk result (λ n. n ≤ 1) }
-{
-    print!(rt; "case {number} differs: ")?;
-    print_text(rt, what)?;
-    print_text(rt, "\n")?;
-    Ok(1)
-}
-
 // Says what differs of a case; how many cases that makes, 1 or 0.
-fn report(rt: &impl Print, number: usize, d: Part) -> io::Result<u64>
+fn report(rt: &impl Print, number: usize, checked: Result<(), Part>) -> io::Result<u64>
     ensures { IfOk result (λ n. n ≤ 1) }
 {
-    match d {
-        Part::Nothing => Ok(0),
-        Part::Refusal => differs(rt, number, "refusal"),
-        Part::Row => differs(rt, number, "row"),
-        Part::Scale => differs(rt, number, "scale"),
-        Part::Numbers => differs(rt, number, "numbers"),
-        Part::Digits => differs(rt, number, "digits"),
-        Part::Readings => differs(rt, number, "readings"),
-        Part::Trace => differs(rt, number, "trace"),
-    }
+    let Err(part) = checked else {
+        return Ok(0);
+    };
+    println!(rt; "case {number} differs: {part}")?;
+    Ok(1)
 }
 
 // Runs the case whose row starts at the place, with the number of its words.
@@ -293,8 +275,7 @@ fn run(rt: &impl Print, t: &Lines, place: usize, number: usize) -> io::Result<u6
 {
     let n = size(t, place + 1);
     let bytes = frame_bytes(t, place + 1);
-    let d = difference(t, past(t, place + 1), &bytes[..n]);
-    report(rt, number, d)
+    report(rt, number, check_case(t, past(t, place + 1), &bytes[..n]))
 }
 
 // Runs all cases; how many differ.

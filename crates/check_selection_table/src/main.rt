@@ -5,51 +5,40 @@
 // The table's text has fewer than 4,096 bytes, so that the first 4,096 of a longer file tell.
 #![tactic(auto)]
 
-use selection::ESTIMATES;
 use std::alloc::Global;
 use std::io::Read;
 use std::rt::Files;
 use std::{env, fs, io};
-use table_text::Compared;
 
 // How many bytes of a file are read.
 const MOST: u64 = 4096;
-
-// The estimate whose entry stands at place k.
-fn print_estimate(rt: &impl Print, k: usize) -> io::Result<()> {
-    if k < 512 {
-        print!(rt; "-{}/32", 512 - k)
-    } else {
-        print!(rt; "{}/32", k - 512)
-    }
-}
-
-// An entry.
-fn print_digit(rt: &impl Print, d: i8) -> io::Result<()> {
-    print!(rt; "{d}")
-}
 
 // What is said of the first entry that the text has otherwise, at place k: its line, its estimate, and what
 // it should be.
 fn print_difference(rt: &impl Print, k: usize) -> io::Result<()> {
     let t = selection::table();
-    if ESTIMATES <= k {
-        return println!(rt; ": more lines than the table's 1024");
+    match t.get(k) {
+        Some(d) if k < 512 => println!(rt;
+            ": line {} differs: the entry for -{}/32 is {d}",
+            k + 1,
+            512 - k
+        ),
+        Some(d) => println!(rt;
+            ": line {} differs: the entry for {}/32 is {d}",
+            k + 1,
+            k - 512
+        ),
+        None => println!(rt; ": more lines than the table's 1024"),
     }
-    print!(rt; ": line {} differs: the entry for ", k + 1)?;
-    print_estimate(rt, k)?;
-    print!(rt; " is ")?;
-    print_digit(rt, t[k])?;
-    println!(rt; "")
 }
 
-// Prints the line of a file: its name, and what came of the comparison.
-fn print_compared(rt: &impl Print, name: &str, c: Compared) -> io::Result<()> {
+// Prints the line of a file: its name, and what came of the comparison, the first entry that differs, if any.
+fn print_compared(rt: &impl Print, name: &str, differs: Option<usize>) -> io::Result<()> {
     print!(rt; "{name}")?;
-    if c.same {
-        return println!(rt; ": the table");
+    match differs {
+        Some(k) => print_difference(rt, k),
+        None => println!(rt; ": the table"),
     }
-    print_difference(rt, c.agreeing)
 }
 
 // Says on standard error why a file cannot be read.

@@ -2,7 +2,7 @@
 -- after the other. Cited by the proofs of `choose_row`, `choose` and `choose_and_list`.
 use mathlib.Core.Path.{◌≡◌, refl, sym, ap, ◌∙◌}
 use mathlib.Core.List.{List}
-use Prim.Native.Nat.{ℕ, ◌+◌, ◌*◌, ◌^◌, ◌<◌, ◌≤◌}
+use Prim.Native.Nat.{ℕ, ◌+◌, ◌*◌, ◌^◌, ◌≤◌}
 use native.Mathlib.Nat.{mul-le-mul}
 use native.Mathlib.Omega.{arith}
 use lib.IntN.{ℤ, pos, nat_abs, ◌+ℤ◌, ◌-ℤ◌, ◌*ℤ◌}
@@ -19,42 +19,48 @@ use Rattle.recurrence.proofs.Selection.{select_selects}
 use Rattle.job.specs.Rules.{bound_over, bound_under}
 use Rattle.system.proofs.Arrays.{stores-more}
 use Rattle.integers.specs.Flat.{filled}
+use Rattle.choice.specs.declared.units.Units.{Units}
 use Rattle.choice.specs.Inner.{shifted_by, digit_from, residual_from, MayChooseRow}
 use Rattle.choice.proofs.Residual.{unit-within}
 use Rattle.integers.proofs.Filled.{filled_zero, filled_next, filled_past}
 
 -- ---- one row
 
--- the digit is at most p, and leaves a residual within its bound
-module _ {z s : List ℤ} {r q p u i : ℕ} (least : 0 < u) (h : MayChooseRow r q p u z s i) where
-  pub digit_most : nat_abs (digit_from r q p u z s i) ≤ p
-  digit_most = (select_selects p u least).small (shifted_by r q z s i) h.bound
-
-  residual_most : bound_under * nat_abs (residual_from r q p u z s i) ≤ bound_over * u
-  residual_most = (select_selects p u least).left (shifted_by r q z s i) h.bound
-
-module _ {z s : List ℤ} {r q p f i : ℕ} (bits : f ≤ 44) (h : MayChooseRow r q p (2 ^ f) z s i) where
+module _ {z s : List ℤ} {u : Units} {i : ℕ} (h : MayChooseRow u z s i) where
   -- row i's numbers
   abbrev W : ℤ
-  W = shifted_by r q z s i
+  W = shifted_by u z s i
 
   abbrev D : ℤ
-  D = digit_from r q p (2 ^ f) z s i
+  D = digit_from u z s i
 
   abbrev R : ℤ
-  R = residual_from r q p (2 ^ f) z s i
+  R = residual_from u z s i
+
+  -- the digit is at most p, and leaves a residual within its bound
+  pub digit_most : nat_abs D ≤ u.p
+  digit_most = (select_selects u.p (2 ^ u.f) (pow_pos u.f)).small W h.bound
+
+  pub digit_small : {B : ℕ} → u.p ≤ B → nat_abs D ≤ B
+  digit_small l = omega (arith, digit_most)
+
+  residual_most : bound_under * nat_abs R ≤ bound_over * 2 ^ u.f
+  residual_most = (select_selects u.p (2 ^ u.f) (pow_pos u.f)).left W h.bound
 
   -- and how large they are
+  unit-most : 2 ^ u.f ≤ 2 ^ 44
+  unit-most = unit-within u.f u.in_range.1
+
   W-small : nat_abs W ≤ 2 ^ 49
   W-small =
-      let k : 32 * p + 17 ≤ 497 = omega (arith, h.largest) in
-      omega (arith, h.bound, mul-le-mul k (unit-within f bits))
+      let k : 32 * u.p + 17 ≤ 497 = omega (arith, h.largest) in
+      omega (arith, h.bound, mul-le-mul k unit-most)
 
   D-small : nat_abs D ≤ 15
-  D-small = omega (arith, digit_most (pow_pos f) h, h.largest)
+  D-small = omega (arith, digit_most, h.largest)
 
   R-small : nat_abs R ≤ 2 ^ 44
-  R-small = omega (arith, residual_most (pow_pos f) h, unit-within f bits)
+  R-small = omega (arith, residual_most, unit-most)
 
   abbrev the_z : Machine (at z i)
   the_z = bounded (at z i) (2 ^ 44) h.residual
@@ -69,14 +75,14 @@ module _ {z s : List ℤ} {r q p f i : ℕ} (bits : f ≤ 44) (h : MayChooseRow 
   s_read = let a = the_s in machine_eq (search machs depth 9) tt refl
 
   -- what `shifted` asks
-  pub may_shift : (r ≤ 16) × (q ≤ 256) × Within (to_z w64 (of_z w64 (at z i))) (2 ^ 44) × Within (to_z w64 (of_z w64 (at s i))) (2 ^ 48)
+  pub may_shift : (u.r ≤ 16) × (u.q ≤ 256) × Within (to_z w64 (of_z w64 (at z i))) (2 ^ 44) × Within (to_z w64 (of_z w64 (at s i))) (2 ^ 48)
   may_shift =
       let a = the_z in
       let b = the_s in
       (h.radix, h.units, machine_within (search machs depth 9) tt, machine_within (search machs depth 9) tt)
 
   -- `w` is what `shifted` gave
-  module _ (w : ℤ) (ew : w ≡ pos r *ℤ to_z w64 (of_z w64 (at z i)) +ℤ pos q *ℤ to_z w64 (of_z w64 (at s i))) where
+  module _ (w : ℤ) (ew : w ≡ pos u.r *ℤ to_z w64 (of_z w64 (at z i)) +ℤ pos u.q *ℤ to_z w64 (of_z w64 (at s i))) where
     w_is : w ≡ W
     w_is = ew ∙ rw (z_read, s_read) refl
 
@@ -90,13 +96,13 @@ module _ {z s : List ℤ} {r q p f i : ℕ} (bits : f ≤ 44) (h : MayChooseRow 
     w_within = let a = the_w in machine_within (search machs depth 9) tt
 
     -- what `select` asks
-    pub w_bound : bound_under * nat_abs (to_z w64 (of_z w64 w)) ≤ (bound_under * p + bound_over) * 2 ^ f
+    pub w_bound : bound_under * nat_abs (to_z w64 (of_z w64 w)) ≤ (bound_under * u.p + bound_over) * 2 ^ u.f
     w_bound = rw w_read h.bound
 
     -- `d` is what `select` gave
-    module _ (d : ℤ) (ed : d ≡ select p (2 ^ f) (to_z w64 (of_z w64 w))) where
+    module _ (d : ℤ) (ed : d ≡ select u.p (2 ^ u.f) (to_z w64 (of_z w64 w))) where
       d_is : d ≡ D
-      d_is = ed ∙ ap (λ x. select p (2 ^ f) x) w_read
+      d_is = ed ∙ ap (λ x. select u.p (2 ^ u.f) x) w_read
 
       abbrev the_d : Machine d
       the_d = known d D 15 d_is D-small
@@ -111,32 +117,32 @@ module _ {z s : List ℤ} {r q p f i : ℕ} (bits : f ≤ 44) (h : MayChooseRow 
       pub digit_stored : (x : ℤ) → x ≡ to_z w64 (of_z w64 d) → to_z w8 (of_z w8 x) ≡ D
       digit_stored x e = let a = known x D 15 (e ∙ d_read) D-small in machine_eq (search machs depth 9) tt refl
 
-      y_is : (y : ℤ) → y ≡ to_z w64 (of_z w64 w) -ℤ pos (2 ^ f) *ℤ to_z w64 (of_z w64 d) → y ≡ R
+      y_is : (y : ℤ) → y ≡ to_z w64 (of_z w64 w) -ℤ pos (2 ^ u.f) *ℤ to_z w64 (of_z w64 d) → y ≡ R
       y_is y e = e ∙ rw (w_read, d_read) refl
 
-      pub residual_stored : (y : ℤ) → y ≡ to_z w64 (of_z w64 w) -ℤ pos (2 ^ f) *ℤ to_z w64 (of_z w64 d) → to_z w64 (of_z w64 y) ≡ R
+      pub residual_stored : (y : ℤ) → y ≡ to_z w64 (of_z w64 w) -ℤ pos (2 ^ u.f) *ℤ to_z w64 (of_z w64 d) → to_z w64 (of_z w64 y) ≡ R
       residual_stored y e = let a = known y R (2 ^ 44) (y_is y e) R-small in machine_eq (search machs depth 9) tt refl
 
 -- ---- the rows one after the other
 
 -- the rows below i are chosen: they have their new residuals and digits, and these are stored; all else is as
 -- it was
-pub record Chosen (k r q p u : ℕ) (s z₀ new₀ ds₀ : List ℤ) (i : ℕ) (z new ds : List ℤ) : Type 0 where
-  pub residuals : z ≡ filled (residual_from r q p u z₀ s) z₀ i
-  pub digits : new ≡ filled (digit_from r q p u z₀ s) new₀ i
-  pub stored : ds ≡ stores ds₀ (λ t. 16 * k + t) (digit_from r q p u z₀ s) i
+pub record Chosen (k : ℕ) (u : Units) (s z₀ new₀ ds₀ : List ℤ) (i : ℕ) (z new ds : List ℤ) : Type 0 where
+  pub residuals : z ≡ filled (residual_from u z₀ s) z₀ i
+  pub digits : new ≡ filled (digit_from u z₀ s) new₀ i
+  pub stored : ds ≡ stores ds₀ (λ t. 16 * k + t) (digit_from u z₀ s) i
 
 -- none
-pub chosen_none : {k r q p u : ℕ} {s z new ds : List ℤ} → Chosen k r q p u s z new ds 0 z new ds
+pub chosen_none : {k : ℕ} {u : Units} {s z new ds : List ℤ} → Chosen k u s z new ds 0 z new ds
 chosen_none =
     record { residuals = sym (filled_zero _ _); digits = sym (filled_zero _ _); stored = sym (stores-zero _ _ _) }
 
 -- one more: row i still has its residual
-module _ {k r q p u : ℕ} {s z₀ new₀ ds₀ : List ℤ} {i : ℕ} {z new ds : List ℤ} (h : Chosen k r q p u s z₀ new₀ ds₀ i z new ds) where
+module _ {k : ℕ} {u : Units} {s z₀ new₀ ds₀ : List ℤ} {i : ℕ} {z new ds : List ℤ} (h : Chosen k u s z₀ new₀ ds₀ i z new ds) where
   still : at z i ≡ at z₀ i
-  still = rw h.residuals (filled_past (residual_from r q p u z₀ s) z₀ i i (omega arith))
+  still = rw h.residuals (filled_past (residual_from u z₀ s) z₀ i i (omega arith))
 
-  pub may_choose_next : MayChooseRow r q p u z₀ s i → MayChooseRow r q p u z s i
+  pub may_choose_next : MayChooseRow u z₀ s i → MayChooseRow u z s i
   may_choose_next m =
       record {
         radix = m.radix;
@@ -148,11 +154,11 @@ module _ {k r q p u : ℕ} {s z₀ new₀ ds₀ : List ℤ} {i : ℕ} {z new ds 
       }
 
   -- `x`, `new'`, `ds'` and `z'` are what `choose_row` gave and left
-  pub digit-next : {x : ℤ} → x ≡ digit_from r q p u z s i → x ≡ digit_from r q p u z₀ s i
+  pub digit-next : {x : ℤ} → x ≡ digit_from u z s i → x ≡ digit_from u z₀ s i
   digit-next e = e ∙ rw still refl
 
-  pub chosen_next : {new' ds' z' : List ℤ} → new' ≡ set new i (digit_from r q p u z s i) → ds' ≡ set ds (16 * k + i) (digit_from r q p u z s i)
-      → z' ≡ set z i (residual_from r q p u z s i) → Chosen k r q p u s z₀ new₀ ds₀ (i + 1) z' new' ds'
+  pub chosen_next : {new' ds' z' : List ℤ} → new' ≡ set new i (digit_from u z s i) → ds' ≡ set ds (16 * k + i) (digit_from u z s i)
+      → z' ≡ set z i (residual_from u z s i) → Chosen k u s z₀ new₀ ds₀ (i + 1) z' new' ds'
   chosen_next en ed ez =
       record {
         residuals = ez ∙ filled_next _ _ _ _ _ h.residuals (rw still refl);

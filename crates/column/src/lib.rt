@@ -30,22 +30,22 @@ pub fn add_column(g: &[i64; ENTRIES], j: usize, lo: usize, hi: usize, d: i64, s:
     }
 }
 
-// Adds column j by its entries: the first, in row lo, and those from row next on and below hi. A caller that
-// adds a column in every step has looked up once where they stand and what the first is; a curve's columns
-// have one or two entries, and the rows between them are passed over.
-pub fn add_entries(
-    g: &[i64; ENTRIES],
-    first: i64,
-    j: usize,
-    lo: usize,
-    next: usize,
-    hi: usize,
-    d: i64,
-    s: &mut [i64; ROWS],
-)
-    requires { MayAddColumn g.now j next hi d s.old × (lo < next) × (lo < 16) × Within (at s.old lo) (2 ^ 48) × Within first (2 ^ 40) }
-    ensures { s.new ≡ entries_added g.now first j lo next hi d s.old }
+// Where the entries of a column stand that is added in every step, looked up once: its first, and the row in
+// which it is; the row of the next one, and the row after the last. A curve's columns have one or two.
+#[derive(Clone, Copy)]
+pub struct Span {
+    pub first: i64,
+    pub start: usize,
+    pub next: usize,
+    pub end: usize,
+}
+
+// Adds column j by its entries: the first, and the rows from the next one on. Those between are passed over.
+pub fn add_entries(g: &[i64; ENTRIES], j: usize, span: Span, d: i64, s: &mut [i64; ROWS])
+    requires { MayAddColumn g.now j span.next span.end d s.old × (span.start < span.next) × (span.start < 16) × Within (at s.old span.start) (2 ^ 48) × Within span.first (2 ^ 40) }
+    ensures { s.new ≡ entries_added g.now span.first j span.start span.next span.end d s.old }
 {
-    s[lo] = sum_after(s[lo], first, d);
-    add_column(g, j, next, hi, d, s);
+    let start = span.start;
+    s[start] = sum_after(s[start], span.first, d);
+    add_column(g, j, span.next, span.end, d, s);
 }

@@ -54,7 +54,7 @@ one-most false = omega arith
 pub added_of : {w D : ℤ} {a : ℕ} → mag w < 2 ^ 63 → w ≡ D → a ≡ nonzero (to_z w64 (of_z w64 w)) → a ≡ nonzero D
 added_of {w} h e o = o ∙ rw (i64_kept w h, e) refl
 
--- and of one that `widen` gave
+-- and of an i64 made of one
 pub added-digit : (x : ℤ) {w : ℤ} {a : ℕ} → mag x < 2 ^ 7 → mag w < 2 ^ 63 → w ≡ to_z w8 (of_z w8 x) → a ≡ nonzero (to_z w64 (of_z w64 w)) → a ≡ nonzero x
 added-digit x h l e o = added_of l (e ∙ i8_kept x h) o
 

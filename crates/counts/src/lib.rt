@@ -3,14 +3,15 @@
 // not in each step, are the additions.
 #![tactic(auto)]
 
-ghost use Rattle.std.specs.Prelude.{◌≡◌, ◌+◌, ◌-◌, ◌*◌, ◌<◌, ◌≤◌, length, get_or};
+ghost use Rattle.std.specs.Prelude.{◌≡◌, ◌+◌, ◌-◌, ◌*◌, ◌<◌, ◌≤◌, get_or};
 ghost use Rattle.integers.specs.Flat.{at};
 ghost use Rattle.integers.specs.Sum.{total};
 ghost use Rattle.additions.specs.Additions.{nonzero};
 ghost use Rattle.state.specs.State.{digits_of};
-ghost use Rattle.spans.specs.Inner.{Start, Starts, End, Ends};
+ghost use Rattle.spans.specs.Inner.{Start, End, AreWithin};
 ghost use Rattle.counts.specs.Inner.{Counts, MayCount, MayMultiply, column_entries, counted};
 
+use column::Span;
 use job::ROWS;
 use state::DIGITS;
 use system::ENTRIES;
@@ -39,7 +40,7 @@ fn added_after(digits: &[i8; DIGITS], k: usize, j: usize) -> u8
     if k == 0 {
         return 0;
     }
-    added(integers::widen(digits[16 * (k - 1) + j]))
+    added(i64::from(digits[16 * (k - 1) + j]))
 }
 
 // For each column whether the step after the k-th adds it.
@@ -60,48 +61,42 @@ pub fn count_digits(d: &[i8; ROWS], n: usize, times: &mut [u8; ROWS])
     ensures { Counts n (λ j. get_or times.old j 0 + nonzero (at d.now j)) times.new }
 {
     for j in 0..n {
-        times[j] = times[j] + added(integers::widen(d[j]));
+        times[j] = times[j] + added(i64::from(d[j]));
     }
 }
 
-// How many entries other than 0 column j has. It has none before row lo, and none from row hi on. A curve's
+// How many entries other than 0 column j has. It has none before its span and none after it. A curve's
 // columns have one entry; so the first row stands before the loop, which then has nothing left to do.
-fn column_entries(g: &[i64; ENTRIES], j: usize, lo: usize, hi: usize, n: usize) -> usize
-    requires { (j < 16) × (n ≤ 16) × Start n g.now j lo × End n g.now j hi }
+fn column_entries(g: &[i64; ENTRIES], j: usize, span: Span, n: usize) -> usize
+    requires { (j < 16) × (n ≤ 16) × Start n g.now j span.start × End n g.now j span.end }
     ensures { result ≡ column_entries n g.now j }
 {
-    if hi <= lo {
+    if span.end <= span.start {
         return 0;
     }
-    let mut c = counted(g[16 * lo + j], 0);
-    for i in lo + 1..hi {
+    let mut c = counted(g[16 * span.start + j], 0);
+    for i in span.start + 1..span.end {
         c = counted(g[16 * i + j], c);
     }
     c
 }
 
 // The entries other than 0 of each column, in e.
-pub fn entries<'a>(
-    g: &'a [i64; ENTRIES],
-    starts: &'a [usize; ROWS],
-    ends: &'a [usize; ROWS],
-    n: usize,
-    e: &mut [usize; ROWS],
-)
-    requires { (n ≤ 16) × Starts n g.now starts.now × Ends n g.now ends.now × (length e.old ≡ 16) }
+pub fn entries(g: &[i64; ENTRIES], spans: &[Span; ROWS], n: usize, e: &mut [usize; ROWS])
+    requires { (n ≤ 16) × AreWithin n g.now spans.now }
     ensures { Counts n (column_entries n g.now) e.new }
 {
     for j in 0..n {
-        e[j] = column_entries(g, j, starts[j], ends[j], n);
+        e[j] = column_entries(g, j, spans[j], n);
     }
 }
 
 // The additions, where t[j] digits of column j are other than 0, that of step k included, with which no step
 // made has added, and column j has e[j] entries.
-pub fn additions<'a>(
-    e: &'a [usize; ROWS],
-    t: &'a [u8; ROWS],
-    digits: &'a [i8; DIGITS],
+pub fn additions(
+    e: &[usize; ROWS],
+    t: &[u8; ROWS],
+    digits: &[i8; DIGITS],
     k: usize,
     n: usize,
 ) -> usize

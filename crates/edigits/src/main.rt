@@ -29,8 +29,8 @@ fn read_frame<R: Read + Drop>(alloc: Global, input: R) -> io::Result<Vec<u8>> {
 // Writes the text of a frame.
 fn write_text<W: Write>(alloc: Global, out: &mut W, frame: &[u8]) -> io::Result<()> {
     let mut text = vec![in alloc; 0u8; ROOM]?;
-    let r = emethod::print_frame(frame, &mut text);
-    match text.get(..r.length) {
+    let length = emethod::print_frame(frame, &mut text).ok();
+    match length.and_then(|n| text.get(..n)) {
         Some(lines) => out.write_all(lines),
         None => Err(io::Error::other("no room for the text")),
     }

@@ -4,9 +4,9 @@
 // functions of those crates are the library's own. The programs make every call through this crate, so none
 // is missing.
 //
-// A call asks nothing of its caller. It refuses by a number, 0 standing for no refusal; docs/FORMAT.md has
-// the numbers of each call and the order of their conditions. With a refusal the state comes back as it went
-// in and lent memory keeps its values.
+// A call asks nothing of its caller. It refuses by a case of `Refused`, whose number `number` gives and the row of a
+// heavy row `row`; docs/FORMAT.md has the numbers of each call and the order of their conditions. With a refusal
+// the state comes back as it went in and lent memory keeps its values.
 //
 // load         makes the state of a job from a frame
 // advance      makes as many steps as a budget allows and as are left
@@ -23,11 +23,11 @@
 // print_frame  puts the text of a frame, accepted or refused, into a lent buffer
 #![tactic(auto)]
 
-pub use calls::{Evaluated, evaluate, perform};
-pub use evaluator::{Advanced, Loaded, advance, load, readings};
-pub use frame::{FrameRead, FrameWritten, read_frame, write_frame};
-pub use job::Header;
-pub use printout::{Printed, print_frame};
-pub use running_sums::{SumsWritten, running_sums};
+pub use calls::{Evaluation, evaluate, perform};
+pub use evaluator::{Steps, advance, load, readings};
+pub use frame::{read_frame, write_frame};
+pub use job::{Header, Refused};
+pub use printout::print_frame;
+pub use running_sums::running_sums;
 pub use state::{State, idle};
-pub use trace::{Record, Recorded, TraceWritten, read_trace, record_of, write_trace};
+pub use trace::{Record, read_trace, record_of, write_trace};

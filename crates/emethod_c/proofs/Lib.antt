@@ -1,3 +1,4 @@
+pub mod Packed
 pub mod Jobs
 pub mod Words
 pub mod Fits

@@ -18,14 +18,14 @@ use Rattle.job.specs.Header.{Limits}
 use Rattle.job.proofs.Refusal.{decided, refused-before, accepted-before}
 use Rattle.job.proofs.Limits.{digit-small, steps-small}
 use Rattle.job.specs.declared.Header.{Header}
-use Rattle.trace.specs.Trace.{digit_list, trace_checks, trace_refusal, trace_record, trace_reader_answer}
+use Rattle.trace.specs.Trace.{digit_list, trace_checks, trace_refusal, trace_record, trace_reader_answer, Recorded}
 use Rattle.trace.proofs.Digits.{length-digit_list, digit_list-more, sets_append}
 use Rattle.trace.specs.Inner.{digits_from}
 use Rattle.integers.proofs.Machine.{i8_kept}
 use Rattle.trace.proofs.Storing.{store_turn}
 use Rattle.trace.proofs.Valid.{record_steps_most, trace-accepted}
-use Rattle.trace.specs.declared.Recorded.{Recorded}
-use Rattle.emethod_c.specs.Foreign.{answer_of, header_words, words_of, word_count, trace_word_count, words_checks, words_refusal, words_answer, words_left, most_words, WordsEnough, WordsDecided}
+use Rattle.emethod_c.specs.Foreign.{answer_of, counted_answer_of, header_words, words_of, word_count, trace_word_count, words_checks, words_refusal, words_answer, words_left, most_words, WordsEnough, WordsDecided}
+use Rattle.emethod_c.proofs.Packed.{count_alone}
 
 -- ---- the words of a trace
 
@@ -119,12 +119,13 @@ module _ (s : List ℕ) (c : Recorded) (e : c ≡ trace_reader_answer s) where
   refusal_is = ap (λ (x : Recorded). x.refusal) e
 
   module _ (h : 0 < c.refusal) where
-    pub words_refused : (r : ℕ) (given : List ℤ) → r ≡ answer_of c.refusal 0 0 → (r ≡ words_answer s (length given)) × (given ≡ words_left s given)
+    pub words_refused : (row r : ℕ) (given : List ℤ) → row ≡ 0 → r ≡ answer_of c.refusal row 0
+        → (r ≡ words_answer s (length given)) × (given ≡ words_left s given)
     unfolding words_answer words_left words_checks
-    words_refused r given f =
+    words_refused row r given w f =
         let z : words_refusal s (length given) ≡ c.refusal = refused-before (trace_checks s) ((23, ltb (length given) (trace_word_count s)) ∷ []) c.refusal h (sym refusal_is) in
         let q = ne_eqb c.refusal 0 (λ o. omega arith) in
-        (f ∙ rw (z, q), rw (z, q))
+        (f ∙ rw (w, z, q), rw (z, q))
 
   module _ (h : c.refusal ≤ 0) where
     none : trace_refusal s ≡ 0
@@ -156,10 +157,10 @@ module _ (s : List ℕ) (c : Recorded) (e : c ≡ trace_reader_answer s) where
         (f ∙ rw (room-left (length given), t), rw (room-left (length given), t))
 
     pub words_whole : (r : ℕ) (given left : List ℤ) → word_count c.trace.header c.trace.k ≤ length given
-        → r ≡ answer_of 0 0 (word_count c.trace.header c.trace.k)
+        → r ≡ counted_answer_of 0 0 (word_count c.trace.header c.trace.k) 0 0
         → left ≡ words_of c.trace.header c.trace.k c.trace.digits ++ drop (word_count c.trace.header c.trace.k) given
         → (r ≡ words_answer s (length given)) × (left ≡ words_left s given)
     unfolding words_answer words_left
     words_whole r given left l f g =
         let t = le-ltb (length given) (trace_word_count s) (rw trace_is at l) in
-        (f ∙ rw (room-left (length given), t, trace_is), g ∙ rw (room-left (length given), t, trace_is))
+        (f ∙ count_alone (word_count c.trace.header c.trace.k) ∙ rw (room-left (length given), t, trace_is), g ∙ rw (room-left (length given), t, trace_is))

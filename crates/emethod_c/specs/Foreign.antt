@@ -1,17 +1,17 @@
 -- What each call of the C interface answers, and what it leaves in lent memory: the contracts of src/lib.rt
 -- are equalities with these. emethod.h says the same to a caller in C.
 use mathlib.Core.{Path.◌≡◌, Bool.cond, List.List, List.[], List.◌∷◌, List.◌++◌, List.map}
-use Rattle.std.specs.Prelude.{ℕ, ◌+◌, ◌*◌, ◌%◌, ◌^◌, ◌<◌, ◌≤◌}
+use Rattle.std.specs.Prelude.{ℕ, ◌+◌, ◌*◌, ◌%◌, ◌^◌, ◌<◌, ◌≤◌, Result, Ok, Err}
 use lib.{Dec.ltb, Dec.eqb, IntN.ℤ, IntN.pos, ListN.length, ListN.drop}
-use Rattle.job.specs.{Header.count, Refusal.Check, Refusal.first_refusal, Refusal.Decides, declared.Header.Header}
+use Rattle.job.specs.{Header.count, Refusal.Check, Refusal.first_refusal, Refusal.Decides, Refused.number_of, Refused.row_of, declared.Header.Header, declared.refusals.Refused.Refused}
 use Rattle.header.specs.Header.{header_of}
-use Rattle.frame.specs.{Frame.frame_refusal, declared.FrameWritten.FrameWritten}
+use Rattle.frame.specs.Frame.{frame_refusal, FrameWritten}
 use Rattle.state.specs.declared.State.{State}
 use Rattle.evaluator.specs.Evaluator.{loaded, advanced}
-use Rattle.running_sums.specs.{RunningSums.sums_written, RunningSums.sums_list, declared.SumsWritten.SumsWritten}
-use Rattle.trace.specs.{Trace.digit_list, Trace.trace_checks, Trace.trace_refusal, Trace.trace_record, Trace.record_answer, Trace.trace_writer_answer, Trace.trace_writer_buffer, declared.Record.Record, declared.TraceWritten.TraceWritten}
+use Rattle.running_sums.specs.RunningSums.{sums_written, sums_list, SumsWritten}
+use Rattle.trace.specs.{Trace.digit_list, Trace.trace_checks, Trace.trace_refusal, Trace.trace_record, Trace.record_answer, Trace.trace_writer_answer, Trace.trace_writer_buffer, Trace.TraceWritten, declared.Record.Record}
 use Rattle.accuracy.specs.Accuracy.{Call, additions_made}
-use Rattle.calls.specs.{Promise.Promise, declared.Evaluated.Evaluated}
+use Rattle.calls.specs.Promise.{Promise, Evaluated}
 
 -- ---- answers: a refusal, a row and a count in one number, of a loaded frame its scale too, and of an
 -- evaluation its additions
@@ -32,6 +32,11 @@ scaled_answer_of refusal row count scale = answer_of refusal row count + 2 ^ 56 
 abbrev pub counted_answer_of : (refusal row count additions scale : ℕ) → ℕ
 counted_answer_of refusal row count additions scale =
     scaled_answer_of refusal row count scale + 2 ^ 40 * (if_accepted refusal additions % 2 ^ 16)
+
+-- what a result with a count comes to: the count, or the refusal and its row
+abbrev pub result_answer : Result ℕ Refused → ℕ
+result_answer (Ok n) = answer_of 0 0 n
+result_answer (Err e) = answer_of (number_of e) (row_of e) 0
 
 -- ---- em_check_frame: how many numbers a frame that loads has, and its scale
 

@@ -7,17 +7,20 @@
 ghost use Rattle.std.specs.Prelude.{◌≡◌, ◌++◌, map, ◌+◌, ◌<◌, ◌≤◌, pos, length, get_or, drop};
 ghost use Rattle.std.proofs.lemmas.List.Edits.{sets};
 ghost use Rattle.job.specs.Header.{Limits};
+ghost use Rattle.job.specs.Refused.{number_of, row_of};
 ghost use Rattle.frame.specs.Frame.{frame_writer_answer, frame_writer_buffer};
 ghost use Rattle.trace.specs.Inner.{digits_from};
 ghost use Rattle.state.specs.State.{all_steps, digit_places};
-ghost use Rattle.emethod_c.specs.Foreign.{if_accepted, answer_of, scaled_answer_of, counted_answer_of, check_answer, Evaluates, header, frame_answer, job_sums_answer, job_sums_list, job_trace_answer, job_trace_buffer, header_words, words_of, word_count, words_answer, words_left, most_words};
+ghost use Rattle.emethod_c.specs.Foreign.{answer_of, counted_answer_of, result_answer, check_answer, Evaluates, header, frame_answer, job_sums_answer, job_sums_list, job_trace_answer, job_trace_buffer, header_words, words_of, word_count, words_answer, words_left, most_words};
 
-use job::{Header, ROWS};
+use job::{Header, ROWS, Refused};
 use state::DIGITS;
 
 const FIELD: usize = 256; // the refusal, the row and the scale have 8 bits each in an answer
 
-const COUNTS: usize = 16777216; // 2^24: the count has the 24 bits above the refusal and the row
+const COUNTS: u64 = 65536; // 2^16: the count stands above the refusal and the row
+
+const MOST_COUNT: usize = 16777216; // 2^24: and has 24 bits
 
 const ADDITIONS: u64 = 1099511627776; // 2^40: the additions stand above the count
 
@@ -25,35 +28,30 @@ const MOST_ADDITIONS: usize = 65536; // 2^16: and have 16 bits
 
 const SCALES: u64 = 72057594037927936; // 2^56: the scale has the 8 bits above them
 
-// The number where there is no refusal, else 0.
-fn if_accepted(refusal: usize, number: usize) -> usize
-    ensures { result ≡ if_accepted refusal number }
+// A refusal and its row in one number.
+fn refused(e: Refused) -> u64
+    ensures { result ≡ answer_of (number_of e) (row_of e) 0 }
 {
-    if refusal == 0 { number } else { 0 }
+    (e.number() % FIELD + FIELD * (e.row() % FIELD)) as u64
 }
 
-// The three numbers in one.
-fn answer(refusal: usize, row: usize, count: usize) -> u64
-    ensures { result ≡ answer_of refusal row count }
+// What a call that is not refused gives, in one number.
+fn accepted(count: usize, additions: usize, scale: usize) -> u64
+    ensures { result ≡ counted_answer_of 0 0 count additions scale }
 {
-    let accepted = if_accepted(refusal, count);
-    (refusal % FIELD + FIELD * (row % FIELD) + FIELD * FIELD * (accepted % COUNTS)) as u64
+    COUNTS * ((count % MOST_COUNT) as u64)
+        + ADDITIONS * ((additions % MOST_ADDITIONS) as u64)
+        + SCALES * ((scale % FIELD) as u64)
 }
 
-// The four numbers in one.
-fn scaled_answer(refusal: usize, row: usize, count: usize, scale: usize) -> u64
-    ensures { result ≡ scaled_answer_of refusal row count scale }
+// The count, or the refusal and its row, in one number.
+fn answer_of_count(r: Result<usize, Refused>) -> u64
+    ensures { result ≡ result_answer r }
 {
-    let accepted = if_accepted(refusal, scale);
-    answer(refusal, row, count) + SCALES * ((accepted % FIELD) as u64)
-}
-
-// The five numbers in one.
-fn counted_answer(refusal: usize, row: usize, count: usize, additions: usize, scale: usize) -> u64
-    ensures { result ≡ counted_answer_of refusal row count additions scale }
-{
-    let accepted = if_accepted(refusal, additions);
-    scaled_answer(refusal, row, count, scale) + ADDITIONS * ((accepted % MOST_ADDITIONS) as u64)
+    match r {
+        Ok(count) => accepted(count, 0, 0),
+        Err(e) => refused(e),
+    }
 }
 
 // Loads a frame and lets it go.
@@ -61,11 +59,10 @@ fn counted_answer(refusal: usize, row: usize, count: usize, additions: usize, sc
 pub extern "C" fn em_check_frame(frame: &[u8]) -> u64
     ensures { result ≡ check_answer frame.now }
 {
-    let l = evaluator::load(frame);
-    if 0 < l.refusal {
-        return scaled_answer(l.refusal, l.row, 0, 0);
+    match evaluator::load(frame) {
+        Ok(s) => accepted(job::count(s.header), 0, s.scale),
+        Err(e) => refused(e),
     }
-    scaled_answer(0, 0, job::count(l.state.header), l.state.scale)
 }
 
 // Loads a frame, advances it by the budget, and writes a reading for each row.
@@ -74,8 +71,11 @@ pub extern "C" fn em_evaluate(frame: &[u8], budget: u64, readings: &mut [i64]) -
     ensures { Evaluates frame.now budget readings.old result readings.new }
 {
     let budgets = [budget; 1];
-    let e = calls::evaluate(frame, &budgets, readings);
-    counted_answer(e.refusal, e.row, e.made, e.additions, e.scale)
+    let d = calls::evaluate(frame, &budgets, readings);
+    match d.refusal {
+        None => accepted(d.made, d.additions, d.scale),
+        Some(e) => refused(e),
+    }
 }
 
 // Writes a frame of the fields and the numbers.
@@ -102,7 +102,7 @@ pub extern "C" fn em_write_frame(
         m,
     };
     let w = frame::write_frame(h, numbers, out);
-    answer(w.refusal, w.row, w.length)
+    answer_of_count(w)
 }
 
 // Loads a frame, advances it by the budget, and writes the running sums of its columns. An advance that is
@@ -112,15 +112,13 @@ pub extern "C" fn em_running_sums(frame: &[u8], budget: u64, words: &mut [i64]) 
     ensures value { result ≡ job_sums_answer frame.now budget (length words.old) }
     ensures words_after { words.new ≡ job_sums_list frame.now budget words.old }
 {
-    let l = evaluator::load(frame);
-    if 0 < l.refusal {
-        return answer(l.refusal, l.row, 0);
+    match evaluator::load(frame) {
+        Ok(s) => {
+            let (t, _) = evaluator::advance(s, budget);
+            answer_of_count(running_sums::running_sums(t, words))
+        }
+        Err(e) => refused(e),
     }
-    let s = l.state;
-    let a = evaluator::advance(s, budget);
-    let t = a.state;
-    let w = running_sums::running_sums(t, words);
-    answer(w.refusal, 0, w.count)
 }
 
 // Loads a frame, advances it by the budget, and writes its trace. An advance that is refused, as with
@@ -130,17 +128,15 @@ pub extern "C" fn em_write_trace(frame: &[u8], budget: u64, out: &mut [u8]) -> u
     ensures value { result ≡ job_trace_answer frame.now budget (length out.old) }
     ensures out_after { out.new ≡ job_trace_buffer frame.now budget out.old }
 {
-    let l = evaluator::load(frame);
-    if 0 < l.refusal {
-        return answer(l.refusal, l.row, 0);
+    let s = match evaluator::load(frame) {
+        Ok(s) => s,
+        Err(e) => return refused(e),
+    };
+    let (t, _) = evaluator::advance(s, budget);
+    match trace::record_of(t) {
+        Ok(d) => answer_of_count(trace::write_trace(d, out)),
+        Err(e) => refused(e),
     }
-    let s = l.state;
-    let a = evaluator::advance(s, budget);
-    let t = a.state;
-    let c = trace::record_of(t);
-    let d = c.trace;
-    let w = trace::write_trace(d, out);
-    answer(w.refusal, 0, w.length)
 }
 
 // One of the first seven words of a trace: the header's fields and the steps made.
@@ -171,7 +167,7 @@ fn put_step_words(d: &[i8; DIGITS], from: usize, n: usize, words: &mut [i64], to
 {
     for x in 0..ROWS {
         if x < n {
-            words[to + x] = integers::widen(d[from + x]);
+            words[to + x] = i64::from(d[from + x]);
         }
     }
 }
@@ -197,16 +193,16 @@ pub extern "C" fn em_read_trace(trace: &[u8], words: &mut [i64]) -> u64
     ensures value { result ≡ words_answer trace.now (length words.old) }
     ensures words_after { words.new ≡ words_left trace.now words.old }
 {
-    let c = trace::read_trace(trace);
-    if 0 < c.refusal {
-        return answer(c.refusal, 0, 0);
-    }
-    let h = c.trace.header;
-    let k = c.trace.k;
+    let t = match trace::read_trace(trace) {
+        Ok(t) => t,
+        Err(e) => return refused(e),
+    };
+    let h = t.header;
+    let k = t.k;
     let size = 7 + h.n * k;
     if words.len() < size {
-        return answer(23, 0, 0); // too little room
+        return refused(Refused::TooLittleRoom);
     }
-    put_words(h, k, &c.trace.digits, words);
-    answer(0, 0, size)
+    put_words(h, k, &t.digits, words);
+    accepted(size, 0, 0)
 }

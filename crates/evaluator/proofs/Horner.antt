@@ -1,19 +1,20 @@
 -- Readings by Horner's rule: a reading of j steps is below r^j, so nothing leaves 64 bits. Cited by the
--- proofs of `reading`, `two_readings`, `put_readings` and `readings`.
-use mathlib.Core.Path.{◌≡◌, refl, ap₂, ◌∙◌}
-use mathlib.Core.List.{List}
+-- proofs of `readings_from`, `put_readings` and `readings`.
+use mathlib.Core.Path.{◌≡◌, refl, ap, ap₂, ◌∙◌}
+use mathlib.Core.List.{List, ◌∷◌}
 use Prim.Native.Nat.{ℕ, zero, suc, ◌+◌, ◌*◌, ◌-◌, ◌^◌, ◌<◌, ◌≤◌}
 use native.Mathlib.Nat.{pow-zero, pow-succ', pow-le-pow_right, mul-le-mul_left, mul-le-mul_right}
 use native.Mathlib.Numerals.{add-one}
 use native.Mathlib.Omega.{arith}
 use lib.IntN.{ℤ, pos, nat_abs, ◌+ℤ◌, ◌*ℤ◌}
+use lib.ListN.{replicate}
 use lib.Pow.{pow_mono}
 use mir.Syntax.{w8, w64}
 use mir.Val.{SFits, to_z, of_z}
 use Rattle.integers.proofs.Absolute.{abs-add, abs-mul}
-use Rattle.integers.specs.Flat.{at, entry}
+use Rattle.integers.specs.Flat.{entry, list_from}
 use Rattle.integers.proofs.Power.{pow-pow}
-use Rattle.integers.proofs.Machine.{Machine, known, bounded, cast_is, read_i8, read_i64, machine_add, machine_fits, machine_eq}
+use Rattle.integers.proofs.Machine.{Machine, known, bounded, cast_is, fits-within, machine_read_is, read_i8, read_i64, machine_add, machine_fits, machine_eq}
 use Rattle.job.specs.Header.{digit_bits, radix}
 use Rattle.job.proofs.Limits.{radix_least, radix_most, few-digits}
 use Rattle.job.specs.declared.Header.{Header}
@@ -22,9 +23,11 @@ use Rattle.state.specs.State.{digits_of, PassesLimits}
 use Rattle.state.specs.declared.State.{State}
 use Rattle.evaluator.specs.Inner.{MayRead, MayReadRows}
 
-pub reading-zero : (r : ℕ) (d : ℕ → ℕ → ℤ) (i : ℕ) → reading r d 0 i ≡ pos 0
-unfolding reading
-reading-zero r d i = refl
+-- the readings of n rows after 0 steps
+pub readings-zero : (r : ℕ) (d : ℕ → ℕ → ℤ) (i n : ℕ) → replicate n (pos 0) ≡ list_from i n (reading r d 0)
+unfolding reading list_from
+readings-zero r d i zero = refl
+readings-zero r d i (suc n) = ap (λ l. pos 0 ∷ l) (readings-zero r d (suc i) n)
 
 -- ---- the rows of a state that passes its limits may be read
 
@@ -71,16 +74,23 @@ module _ {ds : List ℤ} {i k r : ℕ} (h : MayRead ds i k r) where
   product_small j l =
       omega (arith, abs-mul (pos r) (Y j), mul-le-mul_left r (below j (omega arith)), pow-succ' r j, pow-le-pow_right {n = r} h.radix_least {i = suc j} {j = k} l, h.room)
 
-  -- `y` are the bits of the reading of j steps
-  module _ (j : ℕ) (l : j < k) (y : ℕ) (ey : to_z w64 y ≡ Y j) where
-    abbrev the_product : Machine (to_z w64 r *ℤ to_z w64 y)
-    the_product =
-        known (to_z w64 r *ℤ to_z w64 y) (pos r *ℤ Y j) (2 ^ 60) (ap₂ (λ a b. a *ℤ b) (cast_is w64 r 16 h.radix_most tt) ey) (product_small j l)
+  pub radix-fits : SFits w64 (pos r)
+  radix-fits = fits-within w64 (pos r) 16 h.radix_most tt
 
-    pub reading-product-fits : SFits w64 (to_z w64 r *ℤ to_z w64 y)
+  -- `y` is the reading of j steps
+  module _ (j : ℕ) (l : j < k) {y : ℤ} (ey : y ≡ Y j) where
+    kept : to_z w64 (of_z w64 y) ≡ Y j
+    kept =
+        machine_read_is w64 y (Y j) (2 ^ 60) ey (omega (arith, below j (omega arith), pow-le-pow_right {n = r} h.radix_least {i = j} {j = k} (omega arith), h.room)) tt
+
+    abbrev the_product : Machine (to_z w64 r *ℤ to_z w64 (of_z w64 y))
+    the_product =
+        known (to_z w64 r *ℤ to_z w64 (of_z w64 y)) (pos r *ℤ Y j) (2 ^ 60) (ap₂ (λ a b. a *ℤ b) (cast_is w64 r 16 h.radix_most tt) kept) (product_small j l)
+
+    pub reading-product-fits : SFits w64 (to_z w64 r *ℤ to_z w64 (of_z w64 y))
     reading-product-fits = machine_fits the_product tt
 
-    -- `x` is what `widen` gave of the next digit
+    -- `x` is the i64 made of the next digit
     module _ (x : ℤ) (ex : x ≡ to_z w8 (of_z w8 (entry ds j i))) where
       digit-small : nat_abs (entry ds j i) ≤ 15
       digit-small = omega (arith, h.digits j l, h.radix_most)
@@ -88,16 +98,12 @@ module _ {ds : List ℤ} {i k r : ℕ} (h : MayRead ds i k r) where
       digit_is : x ≡ entry ds j i
       digit_is = ex ∙ machine_eq (read_i8 (bounded (entry ds j i) 15 digit-small)) tt refl
 
-      abbrev the_sum : Machine (to_z w64 (of_z w64 (to_z w64 r *ℤ to_z w64 y)) +ℤ to_z w64 (of_z w64 x))
+      abbrev the_sum : Machine (to_z w64 (of_z w64 (to_z w64 r *ℤ to_z w64 (of_z w64 y))) +ℤ to_z w64 (of_z w64 x))
       the_sum = machine_add (read_i64 the_product) (read_i64 (known x (entry ds j i) 15 digit_is digit-small))
 
-      pub reading-sum-fits : SFits w64 (to_z w64 (of_z w64 (to_z w64 r *ℤ to_z w64 y)) +ℤ to_z w64 (of_z w64 x))
+      pub reading-sum-fits : SFits w64 (to_z w64 (of_z w64 (to_z w64 r *ℤ to_z w64 (of_z w64 y))) +ℤ to_z w64 (of_z w64 x))
       reading-sum-fits = machine_fits the_sum tt
 
-      pub reading-next : to_z w64 (of_z w64 (to_z w64 (of_z w64 (to_z w64 r *ℤ to_z w64 y)) +ℤ to_z w64 (of_z w64 x))) ≡ reading r (digits_of ds) (j + 1) i
+      pub reading-next : to_z w64 (of_z w64 (to_z w64 (of_z w64 (to_z w64 r *ℤ to_z w64 (of_z w64 y))) +ℤ to_z w64 (of_z w64 x))) ≡ reading r (digits_of ds) (j + 1) i
       unfolding reading
       reading-next = machine_eq (read_i64 the_sum) tt (rw add-one refl)
-
--- ---- the digit of the row after i, at the place that the code adds up
-pub next_row : (ds : List ℤ) (j i : ℕ) {x : ℤ} → x ≡ to_z w8 (of_z w8 (at ds (16 * j + i + 1))) → x ≡ to_z w8 (of_z w8 (entry ds j (i + 1)))
-next_row ds j i e = let p : 16 * j + i + 1 ≡ 16 * j + (i + 1) = omega arith in rw p at e

@@ -2,11 +2,11 @@
 // readings is lent.
 //
 // `load` makes the state of a job frame: the job's matrix and right-hand sides, with 0 steps made. It is
-// refused as the frame is; the state is then the idle one.
+// refused as the frame is.
 //
 // `advance` makes as many steps as the budget allows and as are left, and answers how many, and how many
-// additions they cost. Refused, it gives the state back as it went in and counts 0 steps and 0 additions. The
-// state is looked at once, before the first step: a step keeps what 24 asks. No step copies the matrix.
+// additions they cost. Refused, it gives the state back as it went in. The state is looked at once, before the
+// first step: a step keeps what 24 asks. No step copies the matrix.
 //
 // `readings` puts one reading a row, in row order, into the list; the words past the n-th keep their
 // values. Refused, it leaves all words as they were.
@@ -19,179 +19,111 @@
 // specs/Steps.antt of stepping.
 #![tactic(auto)]
 
-ghost use Rattle.std.specs.Prelude.{◌≡◌, true, cond, [], ◌∷◌, ◌++◌, ◌+◌, ◌<◌, ◌≤◌, ltb, leb, length, drop};
+ghost use Rattle.std.specs.Prelude.{◌≡◌, ℕ, true, cond, ◌++◌, ◌+◌, ◌<◌, ◌≤◌, ltb, leb, length, drop};
 ghost use Rattle.integers.specs.Flat.{list_from};
 ghost use Rattle.job.specs.Header.{radix, Limits};
-ghost use Rattle.job.specs.Rules.{last_step, ScaleLimits};
-ghost use Rattle.job.specs.Refusal.{first_refusal};
+ghost use Rattle.job.specs.Refused.{refusal_of};
 ghost use Rattle.recurrence.specs.Recurrence.{reading};
-ghost use Rattle.state.specs.State.{digits_of, idle_state};
-ghost use Rattle.evaluator.specs.Evaluator.{loaded, no_budget, smaller, advanced, readings_refusal, readings_list};
+ghost use Rattle.state.specs.State.{digits_of};
+ghost use Rattle.evaluator.specs.Evaluator.{load_answer, loaded, advance_refusal, advance_answer, advanced, readings_refusal, readings_list};
 ghost use Rattle.evaluator.specs.Inner.{MayRead, MayReadRows};
 
-use job::{Header, ROWS};
+use job::{Header, ROWS, Refused};
 use state::{DIGITS, State};
 use system::ENTRIES;
 
-// What load answers: a refusal number, 0 where there is none, the row given with it, and the state.
-#[derive(Clone, Copy)]
-pub struct Loaded {
-    pub refusal: usize,
-    pub row: usize,
-    pub state: State,
-}
-
-// What advance answers: a refusal number, 0 where there is none, the steps made, their additions, and the
-// state.
-#[derive(Clone, Copy)]
-pub struct Advanced {
-    pub refusal: usize,
+// What an advance has made: the steps, and their additions.
+#[derive(Clone, Copy, PartialEq, Eq, Debug)]
+pub struct Steps {
     pub made: u64,
     pub additions: usize,
-    pub state: State,
-}
-
-// The answer of a refused load.
-fn refused(refusal: usize, row: usize) -> Loaded
-    ensures { result ≡ record { refusal = refusal; row = row; state = idle_state } }
-{
-    Loaded {
-        refusal,
-        row,
-        state: state::idle(),
-    }
 }
 
 // The state of the job that the frame s spells. The right-hand sides are made before the matrix: looked at
 // right after they are stored, they would make the search for the scale wait.
-pub fn load(s: &[u8]) -> Loaded
-    ensures { result ≡ loaded s.now }
+pub fn load(s: &[u8]) -> Result<State, Refused>
+    ensures { load_answer result ≡ loaded s.now }
 {
     let mut v = [0i64; job::NUMBERS];
-    let a = frame::unpack(s, &mut v);
-    if 0 < a.refusal {
-        return refused(a.refusal, 0);
-    }
-    let h = a.header;
+    let h = frame::unpack(s, &mut v)?;
     let n = job::count(h);
     let numbers = &v[..n];
     let z = system::right_sides(h, numbers);
     let mut g = [0i64; ENTRIES];
     system::place_matrix(&mut g, h, numbers);
-    let w = frame::weigh(&g, &z, h);
-    if 0 < w.refusal {
-        return refused(w.refusal, w.row);
-    }
-    Loaded {
-        refusal: 0,
-        row: 0,
-        state: State {
-            busy: true,
-            header: h,
-            scale: w.scale,
-            k: 0,
-            g,
-            z,
-            digits: [0; DIGITS],
-        },
-    }
+    let scale = scale::scale(&z, h);
+    frame::check_system(&g, h, scale)?;
+    Ok(State {
+        busy: true,
+        header: h,
+        scale,
+        k: 0,
+        g,
+        z,
+        digits: [0; DIGITS],
+    })
 }
 
-// What advance is refused by: the state's number where it has one, then 22 and 21. A state without a number
-// has a last step; one that breaks a limit may have none that a machine's number holds.
-fn advance_refusal(bad: usize, budget: u64, k: usize, h: Header, scale: usize) -> usize
-    requires { bad ≡ 0 → Limits h × ScaleLimits h scale }
-    ensures { result ≡ cond (ltb 0 bad) bad (first_refusal ((22, no_budget budget) ∷ (21, leb (last_step h scale) k) ∷ [])) }
+// What advance is refused by: 20, 24, 22, 21.
+fn check_advance(s: &State, budget: u64) -> Result<(), Refused>
+    ensures { refusal_of result ≡ advance_refusal s.now budget }
 {
-    if 0 < bad {
-        return bad;
-    }
+    s.check()?;
     if budget == 0 {
-        return 22;
+        return Err(Refused::NoBudget);
     }
-    if job::last_step(h, scale) <= k {
-        return 21;
+    if job::last_step(s.header, s.scale) <= s.k {
+        return Err(Refused::NoStepLeft);
     }
-    0
+    Ok(())
 }
 
-// The smaller of two numbers.
-pub fn smaller(a: u64, b: u64) -> u64
-    ensures { result ≡ smaller a b }
+// As many steps as the budget allows and as are left: the state that they leave, and what was made. Refused, the
+// state is as it went in.
+pub fn advance(s: State, budget: u64) -> (State, Result<Steps, Refused>)
+    ensures { advance_answer result ≡ advanced s budget }
 {
-    if a <= b { a } else { b }
-}
-
-// As many steps as the budget allows and as are left.
-pub fn advance(s: State, budget: u64) -> Advanced
-    ensures { result ≡ advanced s budget }
-{
+    if let Err(e) = check_advance(&s, budget) {
+        return (s, Err(e));
+    }
     let mut t = s;
     let h = t.header;
     let scale = t.scale;
     let k = t.k;
-    let bad = state::check(t.busy, h, scale, k, &t.g, &t.z, &t.digits);
-    let refusal = advance_refusal(bad, budget, k, h, scale);
-    let mut made: u64 = 0;
-    let mut additions: usize = 0;
-    if refusal == 0 {
-        made = smaller(budget, (job::last_step(h, scale) - k) as u64);
-        let mut z = t.z;
-        let mut digits = t.digits;
-        additions = stepping::make_steps(h, scale, k, made as usize, &t.g, &mut z, &mut digits);
-        t.z = z;
-        t.digits = digits;
-        t.k = k + made as usize;
-    }
-    Advanced {
-        refusal,
-        made,
-        additions,
-        state: t,
-    }
+    let made = budget.min((job::last_step(h, scale) - k) as u64);
+    let mut z = t.z;
+    let mut digits = t.digits;
+    let additions = stepping::make_steps(h, scale, k, made as usize, &t.g, &mut z, &mut digits);
+    t.z = z;
+    t.digits = digits;
+    t.k = k + made as usize;
+    (t, Ok(Steps { made, additions }))
 }
 
-// The reading of row i after k steps, by Horner's rule.
-fn reading(digits: &[i8; DIGITS], i: usize, k: usize, r: usize) -> i64
-    requires { MayRead digits.now i k r }
-    ensures { result ≡ reading r (digits_of digits.now) k i }
+// The readings of N rows, from row i on, after k steps, by Horner's rule. Several rows at once: the products of
+// one need not wait for those of another.
+fn readings_from<const N: usize>(digits: &[i8; DIGITS], i: usize, k: usize, r: usize) -> [i64; N]
+    requires { (t : ℕ) → t < N → MayRead digits.now (i + t) k r }
+    ensures { result ≡ list_from i N (reading r (digits_of digits.now) k) }
 {
-    let radix = r as i64;
-    let mut y: i64 = 0;
+    let mut y = [0i64; N];
     for j in 0..k {
-        y = radix * y + integers::widen(digits[16 * j + i]);
+        for t in 0..N {
+            y[t] = r as i64 * y[t] + i64::from(digits[16 * j + (i + t)]);
+        }
     }
     y
 }
 
-// The readings of rows i and i + 1 after k steps. Two rows at once: the products of one need not wait for
-// those of the other.
-fn two_readings(digits: &[i8; DIGITS], i: usize, k: usize, r: usize) -> [i64; 2]
-    requires { MayRead digits.now i k r × MayRead digits.now (i + 1) k r }
-    ensures { result ≡ reading r (digits_of digits.now) k i ∷ reading r (digits_of digits.now) k (i + 1) ∷ [] }
+// What readings is refused by: 20, 24, and 23 where a list of `room` words has no word for some row.
+fn check_readings(s: &State, room: usize) -> Result<(), Refused>
+    ensures { refusal_of result ≡ readings_refusal s.now room }
 {
-    let radix = r as i64;
-    let mut first: i64 = 0;
-    let mut second: i64 = 0;
-    for j in 0..k {
-        first = radix * first + integers::widen(digits[16 * j + i]);
-        second = radix * second + integers::widen(digits[16 * j + i + 1]);
+    s.check()?;
+    if room < s.header.n {
+        return Err(Refused::TooLittleRoom);
     }
-    [first, second]
-}
-
-// What readings is refused by: the state's number where it has one, then 23, where a list of `room` words
-// has no word for some row.
-fn readings_refusal(bad: usize, room: usize, n: usize) -> usize
-    ensures { result ≡ cond (ltb 0 bad) bad (first_refusal ((23, ltb room n) ∷ [])) }
-{
-    if 0 < bad {
-        return bad;
-    }
-    if room < n {
-        return 23;
-    }
-    0
+    Ok(())
 }
 
 // Puts the readings at step k, one a row, into the list; the words past the n-th stay. For callers that
@@ -201,27 +133,24 @@ pub fn put_readings(h: Header, k: usize, digits: &[i8; DIGITS], out: &mut [i64])
     ensures { out.new ≡ list_from 0 h.n (reading (radix h.code) (digits_of digits.now) k) ++ drop h.n out.old }
 {
     let n = h.n;
-    let r = job::radix_by_shift(h.code);
+    let r = job::radix(h.code);
     for i in 0..n / 2 {
-        let two = two_readings(digits, 2 * i, k, r);
+        let two = readings_from::<2>(digits, 2 * i, k, r);
         out[2 * i] = two[0];
         out[2 * i + 1] = two[1];
     }
     if n % 2 == 1 {
-        out[n - 1] = reading(digits, n - 1, k, r);
+        let last = readings_from::<1>(digits, n - 1, k, r);
+        out[n - 1] = last[0];
     }
 }
 
 // The readings at the steps made, one a row.
-pub fn readings(s: State, out: &mut [i64]) -> usize
-    ensures answer { result ≡ readings_refusal s (length out.old) }
+pub fn readings(s: State, out: &mut [i64]) -> Result<(), Refused>
+    ensures answer { refusal_of result ≡ readings_refusal s (length out.old) }
     ensures list { out.new ≡ readings_list s out.old }
 {
-    let h = s.header;
-    let bad = state::check(s.busy, h, s.scale, s.k, &s.g, &s.z, &s.digits);
-    let answer = readings_refusal(bad, out.len(), h.n);
-    if answer == 0 {
-        put_readings(h, s.k, &s.digits, out);
-    }
-    answer
+    check_readings(&s, out.len())?;
+    put_readings(s.header, s.k, &s.digits, out);
+    Ok(())
 }

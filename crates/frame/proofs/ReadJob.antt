@@ -4,15 +4,17 @@ use mathlib.Core.Path.{◌≡◌, refl, sym, ap, ◌∙◌}
 use mathlib.Core.List.{List, ◌++◌}
 use Prim.Native.Nat.{ℕ, ◌<◌, ◌≤◌}
 use native.Mathlib.Omega.{arith}
-use borrow.Author.Tests.{ne_eqb}
 use lib.IntN.{ℤ}
 use lib.ListN.{length, take, drop, length-take}
 use lib.Seq.{take_at}
 use Rattle.job.specs.Header.{count, Limits}
-use Rattle.job.specs.declared.Verdict.{Verdict}
+use Rattle.job.specs.Refused.{Verdict, number_of, row_of, verdict_by}
+use Rattle.job.specs.declared.refusals.Refused.{Refused}
+use Rattle.job.specs.declared.Header.{Header}
+use Rattle.job.proofs.Numbers.{number_positive}
 use Rattle.system.specs.Inner.{Numbers}
 use Rattle.header.specs.Header.{header_of}
-use Rattle.frame.specs.declared.FrameRead.{FrameRead}
+use Rattle.frame.specs.Frame.{FrameRead}
 use Rattle.frame.specs.Frame.{frame_numbers, layout_checks, number_checks, frame_checks, frame_refusal, frame_row}
 use Rattle.frame.specs.Inner.{checks_verdict, layout_refusal, refused_answer, unpack_answer, unpacked}
 use Rattle.frame.specs.Theorems.{PassesLayout}
@@ -47,63 +49,58 @@ module _ (s : List ℕ) {d : Verdict} (e : d ≡ checks_verdict (frame_checks s)
 
 -- ---- after `unpack`
 
--- it answered a and left v, nothing was refused, and n is the count of the numbers
-pub record Unpacked (s : List ℕ) (a : FrameRead) (v : List ℤ) (n : ℕ) : Type 0 where
+-- it left v, nothing was refused, h is the header, and n is the count of the numbers
+pub record Unpacked (s : List ℕ) (h : Header) (v : List ℤ) (n : ℕ) : Type 0 where
   pub accepted : layout_refusal s ≡ 0
-  pub answer : a ≡ record { refusal = 0; row = 0; header = header_of s }
+  pub header : h ≡ header_of s
   pub counted : n ≡ count (header_of s)
   pub numbers : take n v ≡ frame_numbers s
 
--- what `unpack` ensures gives it
-module _ (s : List ℕ) (z : List ℤ) {a : FrameRead} {v : List ℤ} (u : (a ≡ unpack_answer s) × (v ≡ unpacked s z)) where
-  pub unpack_refusal : a.refusal ≡ layout_refusal s
+-- what `unpack` ensures, of a refusal by e
+pub unpack_refusal : (s : List ℕ) (e : Refused) → refused_answer (number_of e) (row_of e) ≡ unpack_answer s
+    → verdict_by e ≡ checks_verdict (frame_checks s) (header_of s) (frame_numbers s)
+unfolding unpack_answer
+unpack_refusal s e u =
+    let c : number_of e ≡ layout_refusal s = ap (λ (a : FrameRead). a.refusal) u in
+    let r : row_of e ≡ 0 = ap (λ (a : FrameRead). a.row) u in
+    rw (c, r) (layout_verdict s (rw c at (number_positive e)))
+
+-- and of the header h
+module _ (s : List ℕ) (z : List ℤ) {h : Header} {v : List ℤ} (u : (record { refusal = 0; row = 0; header = h } ≡ unpack_answer s) × (v ≡ unpacked s z)) where
+  no_refusal : layout_refusal s ≡ 0
   unfolding unpack_answer
-  unpack_refusal = ap (λ (a : FrameRead). a.refusal) u.0
+  no_refusal = sym (ap (λ (a : FrameRead). a.refusal) u.0)
 
-  pub unpack_refused : 0 < a.refusal → a ≡ refused_answer (layout_refusal s) 0
+  unpack_header : h ≡ header_of s
   unfolding unpack_answer
-  unpack_refused y = u.0 ∙ rw (ne_eqb (layout_refusal s) 0 (λ e. omega (arith, unpack_refusal)))
+  unpack_header = ap (λ (a : FrameRead). a.header) u.0 ∙ rw no_refusal refl
 
-  module _ (y : a.refusal ≤ 0) where
-    no_refusal : layout_refusal s ≡ 0
-    no_refusal = omega (arith, unpack_refusal)
+  pub unpack_limits : Limits h
+  unpack_limits = rw (← unpack_header) at (layout_laid s no_refusal).limits
 
-    accepted-answer : a ≡ record { refusal = 0; row = 0; header = header_of s }
-    unfolding unpack_answer
-    accepted-answer = u.0 ∙ rw no_refusal
-
-    pub unpack_header : a.header ≡ header_of s
-    unpack_header = ap (λ (a : FrameRead). a.header) accepted-answer
-
-    pub unpack_limits : Limits a.header
-    unpack_limits = rw (← unpack_header) at (layout_laid s no_refusal).limits
-
-    pub unpack_gives : {n : ℕ} → n ≡ count a.header → Unpacked s a v n
-    unfolding unpacked
-    unpack_gives {n} k =
-        let e : n ≡ count (header_of s) = k ∙ ap count unpack_header in
-        let l : length (frame_numbers s) ≡ n = numbers-counted s ∙ sym e in
-        let w : v ≡ frame_numbers s ++ drop (count (header_of s)) z = u.1 ∙ rw no_refusal in
-        record { accepted = no_refusal; answer = accepted-answer; counted = e; numbers = rw w (take_at (frame_numbers s) (drop (count (header_of s)) z) n l) }
+  pub unpack_gives : {n : ℕ} → n ≡ count h → Unpacked s h v n
+  unfolding unpacked
+  unpack_gives {n} k =
+      let e : n ≡ count (header_of s) = k ∙ ap count unpack_header in
+      let l : length (frame_numbers s) ≡ n = numbers-counted s ∙ sym e in
+      let w : v ≡ frame_numbers s ++ drop (count (header_of s)) z = u.1 ∙ rw no_refusal in
+      record { accepted = no_refusal; header = unpack_header; counted = e; numbers = rw w (take_at (frame_numbers s) (drop (count (header_of s)) z) n l) }
 
 -- and then the numbers are a part of v, from which the system can be set up
-module _ {s : List ℕ} {a : FrameRead} {v : List ℤ} {n : ℕ} (u : Unpacked s a v n) where
-  pub header_same : a.header ≡ header_of s
-  header_same = ap (λ (a : FrameRead). a.header) u.answer
-
+module _ {s : List ℕ} {h : Header} {v : List ℤ} {n : ℕ} (u : Unpacked s h v n) where
   pub part_long : n ≡ length (take n v)
   part_long = u.counted ∙ sym (numbers-counted s) ∙ ap length (sym u.numbers)
 
   pub part_within : n ≤ length v
   part_within = omega (arith, part_long, length-take n v)
 
-  pub part_small : Limits a.header × Numbers (count a.header) (take n v)
+  pub part_small : Limits h × Numbers (count h) (take n v)
   part_small =
       let l = (layout_laid s u.accepted).limits in
       let m : Numbers (count (header_of s)) (frame_numbers s) = numbers-small l (numbers-counted s) (numbers_fitting s) in
-      (rw (← header_same) at l, rw (u.numbers, header_same) m)
+      (rw (← u.header) at l, rw (u.numbers, u.header) m)
 
   -- and the verdict on the system is that on the frame
-  pub part_verdict : {d : Verdict} → d ≡ checks_verdict (number_checks a.header (take n v)) a.header (take n v)
+  pub part_verdict : {d : Verdict} → d ≡ checks_verdict (number_checks h (take n v)) h (take n v)
       → d ≡ checks_verdict (frame_checks s) (header_of s) (frame_numbers s)
-  part_verdict e = (rw (header_same, u.numbers) at e) ∙ sym (rows_verdict s u.accepted)
+  part_verdict e = (rw (u.header, u.numbers) at e) ∙ sym (rows_verdict s u.accepted)

@@ -5,7 +5,7 @@ use mathlib.Core.Bool.{Bool, true, false, not, cond}
 use mathlib.Core.List.{List, [], ◌∷◌, ◌++◌}
 use Prim.Native.Nat.{ℕ, ◌+◌, ◌-◌, ◌^◌, ◌<◌, ◌≤◌}
 use native.Mathlib.Omega.{arith}
-use borrow.Author.Tests.{lt-ltb, le-ltb}
+use borrow.Author.Tests.{lt-ltb, le-ltb, eq-eqb}
 use lib.Dec.{T, eqb}
 use lib.IntN.{ℤ, pos, negsuc, nat_abs}
 use lib.ListN.{length, get_or}
@@ -23,17 +23,29 @@ use Rattle.system.specs.System.{matrix_of, right_side_of}
 use Rattle.scale.specs.Scale.{scale, job_scale}
 use Rattle.scale.proofs.Smallest.{scale_flat}
 use Rattle.job.specs.declared.Header.{Header}
-use Rattle.job.specs.declared.Verdict.{Verdict}
+use Rattle.job.specs.Refused.{Verdict, number_of, verdict_by, without_row}
+use Rattle.job.specs.declared.refusals.Refused.{Refused}
+use Rattle.job.proofs.Numbers.{rowless_number}
 use Rattle.system.specs.Inner.{Numbers}
 use Rattle.system.proofs.Searches.{heavy_flat}
 use Rattle.frame.specs.Frame.{number_checks, frame_row}
-use Rattle.frame.specs.Inner.{checks_verdict, numbers_verdict, weighed}
-use Rattle.frame.specs.declared.Weighed.{Weighed}
+use Rattle.frame.specs.Inner.{checks_verdict, numbers_verdict}
 
 -- none of the numbers is 8, so no row goes with them
 unfoldable pub rowless : List Check → Bool
 rowless [] = true
 rowless (c ∷ cs) = both (not (eqb c.0 8)) (rowless cs)
+
+-- so the first refusal of them is not 8, and no row goes with the error of that number
+no_row : (cs : List Check) → T (rowless cs) → first_refusal cs ≡ 8 → ⊥
+unfolding rowless
+no_row [] t e = absurd (omega arith)
+no_row ((k, true) ∷ cs) t e = absurd (rw (eq-eqb k 8 e) at (both_left (not (eqb k 8)) (rowless cs) t))
+no_row ((k, false) ∷ cs) t e = no_row cs (both_right (not (eqb k 8)) (rowless cs) t) e
+
+pub error_rowless : (cs : List Check) (e : Refused) → T (rowless cs) → number_of e ≡ first_refusal cs
+    → verdict_by e ≡ without_row (first_refusal cs)
+error_rowless cs e t p = rw (rowless_number e (λ q. no_row cs t (sym p ∙ q)), p)
 
 -- ---- the verdict by parts
 
@@ -79,29 +91,20 @@ of_steps a b h t = rw (le-ltb 0 a h, t)
 pub of_none : (a : ℕ) (b : Bool) → a ≤ 0 → b ≡ false → record { refusal = 0; row = 0 } ≡ numbers_verdict a b
 of_none a b h t = rw (le-ltb 0 a h, t)
 
-pub weigh_finds : (h : Header) (g z : List ℤ) {a s : ℕ} {d : Verdict} → a ≡ heavy_row h (entry g) → s ≡ scale h (at z)
-    → d ≡ numbers_verdict a (scaled_steps_out_of_range h s) → record { refusal = d.refusal; row = d.row; scale = s } ≡ weighed h g z
-unfolding weighed
-weigh_finds h g z k m n = rw (n, k, m) refl
-
 -- the arrays of a job's system, from which its heavy row and its scale are found
 module _ (h : Header) (v : List ℤ) {g z : List ℤ} (l : h.n ≤ 16) (e : g ≡ flat_matrix h.n (matrix_of h v)) (f : z ≡ flat_vector h.n (right_side_of h v)) where
-  scale_found : scale h (at z) ≡ job_scale h v
+  pub scale_found : scale h (at z) ≡ job_scale h v
   scale_found = rw f (scale_flat h (right_side_of h v) l)
 
   heavy_found : heavy_row h (entry g) ≡ heavy_row h (matrix_of h v)
   heavy_found = rw e (heavy_flat h (matrix_of h v) l)
 
-  module _ {w : Weighed} (k : w ≡ weighed h g z) where
-    pub weighed-scale : w.scale ≡ job_scale h v
-    unfolding weighed
-    weighed-scale = ap (λ (w : Weighed). w.scale) k ∙ scale_found
-
-    pub weighed_verdict : record { refusal = w.refusal; row = w.row } ≡ checks_verdict (number_checks h v) h v
-    unfolding weighed checks_verdict
-    weighed_verdict =
-        ap (λ (w : Weighed). record { refusal = w.refusal; row = w.row }) k
-        ∙ ap₂ (λ (a s : ℕ). numbers_verdict a (scaled_steps_out_of_range h s)) heavy_found scale_found
+  -- the verdict of 8 and 15 on them, at their scale s, is the job's
+  pub system_decides : {s : ℕ} {d : Verdict} → s ≡ scale h (at z) → d ≡ numbers_verdict (heavy_row h (entry g)) (scaled_steps_out_of_range h s)
+      → d ≡ checks_verdict (number_checks h v) h v
+  unfolding checks_verdict
+  system_decides k m =
+      m ∙ ap₂ (λ (a s : ℕ). numbers_verdict a (scaled_steps_out_of_range h s)) heavy_found (k ∙ scale_found)
 
 -- numbers that fit are at most 2, and small enough to set the system up from
 abs_mag : (z : ℤ) → nat_abs z ≤ mag z + 1

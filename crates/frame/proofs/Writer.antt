@@ -18,7 +18,9 @@ use Rattle.job.specs.Header.{number_bits, count, header_checks, Limits}
 use Rattle.job.proofs.Limits.{limits_exactly, count-least}
 use Rattle.job.specs.Refusal.{first_refusal}
 use Rattle.job.specs.declared.Header.{Header}
-use Rattle.job.specs.declared.Verdict.{Verdict}
+use Rattle.job.specs.Refused.{Verdict, number_of, row_of, verdict_by}
+use Rattle.job.specs.declared.refusals.Refused.{Refused}
+use Rattle.job.proofs.Numbers.{number_positive}
 use Rattle.header.specs.Header.{header_bits, header_fields}
 use Rattle.header.proofs.Header.{fit-header}
 use Rattle.system.specs.Inner.{Numbers}
@@ -27,7 +29,7 @@ use Rattle.frame.specs.Theorems.{ValidJob}
 use Rattle.frame.proofs.Valid.{frame_bits-most, all_fit_true, frame_writer_accepted}
 use Rattle.frame.proofs.RoundTrip.{bits-frame}
 use Rattle.frame.specs.Inner.{checks_verdict}
-use Rattle.frame.proofs.Verdicts.{rowless, verdict_before, verdict_first, verdict_after, numbers-small}
+use Rattle.frame.proofs.Verdicts.{rowless, error_rowless, verdict_before, verdict_first, verdict_after, numbers-small}
 
 -- ---- 13: whether every number fits, told by one that does not or by all that do
 
@@ -68,18 +70,22 @@ module _ (h : Header) (v : List ℤ) {n : ℕ} (k : n ≡ count h) where
 
 -- ---- all refusals in their order
 
-module _ (h : Header) (v : List ℤ) (room : ℕ) {c : ℕ} (e : c ≡ first_refusal (header_checks h)) where
-  pub header_decides : 0 < c → record { refusal = c; row = 0 } ≡ checks_verdict (frame_writer_checks h v room) h v
+module _ (h : Header) (v : List ℤ) (room : ℕ) where
+  -- by the error e of the header
+  pub header_decides : (e : Refused) → number_of e ≡ first_refusal (header_checks h) → verdict_by e ≡ checks_verdict (frame_writer_checks h v room) h v
   unfolding frame_writer_checks rowless
-  header_decides z = verdict_before h v (header_checks h) (sent_checks h v ++ ((23, frame_buffer_too_short h room) ∷ [])) tt e z
+  header_decides e n =
+      error_rowless (header_checks h) e tt n
+      ∙ verdict_before h v (header_checks h) (sent_checks h v ++ ((23, frame_buffer_too_short h room) ∷ [])) tt refl (rw n at (number_positive e))
 
-  module _ (z : c ≤ 0) where
+  -- by none of the header
+  module _ (e : 0 ≡ first_refusal (header_checks h)) where
     pub writer_limits : Limits h
-    writer_limits = (limits_exactly h).0 (omega arith)
+    writer_limits = (limits_exactly h).0 (sym e)
 
     past_header : checks_verdict (frame_writer_checks h v room) h v ≡ checks_verdict (sent_checks h v ++ ((23, frame_buffer_too_short h room) ∷ [])) h v
     unfolding frame_writer_checks
-    past_header = verdict_after h v (header_checks h) (sent_checks h v ++ ((23, frame_buffer_too_short h room) ∷ [])) tt (omega arith)
+    past_header = verdict_after h v (header_checks h) (sent_checks h v ++ ((23, frame_buffer_too_short h room) ∷ [])) tt (sym e)
 
     module _ {d : Verdict} (f : d ≡ checks_verdict (sent_checks h v) h v) where
       pub numbers_decide : 0 < d.refusal → d ≡ checks_verdict (frame_writer_checks h v room) h v
@@ -140,16 +146,16 @@ module _ (h : Header) (v : List ℤ) (s : List ℕ) (pre : ValidJob h v × (leng
 
 -- ---- the answer and the buffer
 
-module _ (h : Header) (v : List ℤ) (out : List ℕ) {d : Verdict} (e : d ≡ checks_verdict (frame_writer_checks h v (length out)) h v) where
-  pub write-refused : 0 < d.refusal
-      → (record { refusal = d.refusal; row = d.row; length = 0 } ≡ frame_writer_answer h v (length out)) × (out ≡ frame_writer_buffer h v out)
-  unfolding frame_writer_answer frame_writer_buffer checks_verdict
-  write-refused z =
-      let c : d.refusal ≡ frame_writer_refusal h v (length out) = ap (λ (d : Verdict). d.refusal) e in
-      let r : d.row ≡ frame_row (frame_writer_refusal h v (length out)) h v = ap (λ (d : Verdict). d.row) e in
-      let n = ne_eqb (frame_writer_refusal h v (length out)) 0 (λ y. omega arith) in
-      (rw (n, c, r), rw n)
+pub write-refused : (h : Header) (v : List ℤ) (out : List ℕ) (e : Refused) → verdict_by e ≡ checks_verdict (frame_writer_checks h v (length out)) h v
+    → (record { refusal = number_of e; row = row_of e; length = 0 } ≡ frame_writer_answer h v (length out)) × (out ≡ frame_writer_buffer h v out)
+unfolding frame_writer_answer frame_writer_buffer checks_verdict
+write-refused h v out e f =
+    let c : number_of e ≡ frame_writer_refusal h v (length out) = ap (λ (d : Verdict). d.refusal) f in
+    let r : row_of e ≡ frame_row (frame_writer_refusal h v (length out)) h v = ap (λ (d : Verdict). d.row) f in
+    let n = ne_eqb (frame_writer_refusal h v (length out)) 0 (λ y. omega (arith, number_positive e)) in
+    (rw (n, c, r), rw n)
 
+module _ (h : Header) (v : List ℤ) (out : List ℕ) {d : Verdict} (e : d ≡ checks_verdict (frame_writer_checks h v (length out)) h v) where
   module _ (z : d.refusal ≤ 0) where
     no_refusal : frame_writer_refusal h v (length out) ≡ 0
     unfolding checks_verdict

@@ -1,14 +1,13 @@
 -- Job frames (document 01, "Job frame" and "Refused because of the input"): the layout, the condition of each
 -- refusal, and what the frame reader and the frame writer answer and leave.
 use mathlib.Core.{Bool.Bool, Bool.true, Bool.not, Bool.cond, Bool.◌&&◌, List.List, List.[], List.◌∷◌, List.◌++◌, List.map}
-use Rattle.std.specs.Prelude.{ℕ, ◌+◌, ◌*◌}
+use Rattle.std.specs.Prelude.{ℕ, ◌+◌, ◌*◌, Result, Ok, Err}
 use lib.{Dec.ltb, Dec.eqb, IntN.ℤ, ListN.length, ListN.drop}
 use Rattle.bitfields.specs.{Layout.Field, Layout.each, Layout.field, Layout.fill, Layout.bytes_for, Layout.written, Twos.encode, Twos.fitsb, Twos.numbers}
-use Rattle.job.specs.{Header.number_bits, Header.count, Header.read_checks, Header.header_checks, Header.zero_header, Refusal.Check, Refusal.first_refusal, Rules.scaled_steps_out_of_range, declared.Header.Header}
+use Rattle.job.specs.{Header.number_bits, Header.count, Header.read_checks, Header.header_checks, Header.zero_header, Refusal.Check, Refusal.first_refusal, Refused.number_of, Refused.row_of, Rules.scaled_steps_out_of_range, declared.Header.Header, declared.refusals.Refused.Refused}
 use Rattle.system.specs.{Rows.heavy_row, System.matrix_of}
 use Rattle.scale.specs.Scale.{job_scale}
 use Rattle.header.specs.Header.{header_fields, header_bits, header_of}
-use Rattle.frame.specs.{declared.FrameRead.FrameRead, declared.FrameWritten.FrameWritten}
 
 -- ---- the layout
 
@@ -78,6 +77,18 @@ frame_reader_checks s room = frame_checks s ++ ((23, number_list_too_short s roo
 abbrev pub frame_reader_refusal : List ℕ → ℕ → ℕ
 frame_reader_refusal s room = first_refusal (frame_reader_checks s room)
 
+-- what the reader answers in document 01's numbers: a refusal number, 0 where there is none, the row given with
+-- it, and the header's fields
+pub record FrameRead : Type 0 where
+  pub refusal : ℕ
+  pub row : ℕ
+  pub header : Header
+
+-- what its result says in these numbers
+abbrev pub frame_read : Result Header Refused → FrameRead
+frame_read (Ok h) = record { refusal = 0; row = 0; header = h }
+frame_read (Err e) = record { refusal = number_of e; row = row_of e; header = zero_header }
+
 -- the fields; with a refusal a header of zeros
 unfoldable pub frame_reader_answer : List ℕ → ℕ → FrameRead
 frame_reader_answer s room =
@@ -119,6 +130,18 @@ frame_writer_checks h v room = header_checks h ++ sent_checks h v ++ ((23, frame
 
 abbrev pub frame_writer_refusal : Header → List ℤ → ℕ → ℕ
 frame_writer_refusal h v room = first_refusal (frame_writer_checks h v room)
+
+-- what the writer answers in document 01's numbers: a refusal number, 0 where there is none, the row given with
+-- it, and the number of bytes
+pub record FrameWritten : Type 0 where
+  pub refusal : ℕ
+  pub row : ℕ
+  pub length : ℕ
+
+-- what its result says in these numbers
+abbrev pub frame_written : Result ℕ Refused → FrameWritten
+frame_written (Ok n) = record { refusal = 0; row = 0; length = n }
+frame_written (Err e) = record { refusal = number_of e; row = row_of e; length = 0 }
 
 -- the number of bytes, 0 when refused
 unfoldable pub frame_writer_answer : Header → List ℤ → ℕ → FrameWritten

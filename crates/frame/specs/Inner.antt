@@ -2,12 +2,9 @@
 use mathlib.Core.{Bool.Bool, Bool.cond, List.List, List.[], List.◌∷◌, List.◌++◌}
 use Rattle.std.specs.Prelude.{ℕ}
 use lib.{Dec.ltb, Dec.eqb, IntN.ℤ, ListN.drop}
-use Rattle.integers.specs.Flat.{at, entry}
-use Rattle.job.specs.{Header.count, Header.zero_header, Refusal.Check, Refusal.first_refusal, Rules.scaled_steps_out_of_range, declared.Header.Header, declared.Verdict.Verdict}
-use Rattle.system.specs.Rows.{heavy_row}
-use Rattle.scale.specs.Scale.{scale}
+use Rattle.job.specs.{Header.count, Header.zero_header, Refusal.Check, Refusal.first_refusal, Refused.Verdict, declared.Header.Header}
 use Rattle.header.specs.Header.{header_of}
-use Rattle.frame.specs.{declared.FrameRead.FrameRead, declared.Weighed.Weighed, Frame.frame_numbers, Frame.layout_checks, Frame.frame_row}
+use Rattle.frame.specs.{Frame.FrameRead, Frame.frame_numbers, Frame.layout_checks, Frame.frame_row}
 
 -- the first refusal of the checks, of a job with the header h and the numbers v, and its row
 unfoldable pub checks_verdict : List Check → Header → List ℤ → Verdict
@@ -38,10 +35,3 @@ unpack_answer s =
 
 unfoldable pub unpacked : List ℕ → List ℤ → List ℤ
 unpacked s v = cond (eqb (layout_refusal s) 0) (frame_numbers s ++ drop (count (header_of s)) v) v
-
--- what `weigh` finds of the matrix g and the right-hand sides z: the verdict of 8 and 15, and the scale
-unfoldable pub weighed : Header → (g z : List ℤ) → Weighed
-weighed h g z =
-    let s = scale h (at z) in
-    let d = numbers_verdict (heavy_row h (entry g)) (scaled_steps_out_of_range h s) in
-    record { refusal = d.refusal; row = d.row; scale = s }

@@ -6,13 +6,6 @@
 ghost use Rattle.std.specs.Prelude.{◌≡◌, ◌<◌, ◌^◌, pos, nat_abs, ◌≤ℤ◌};
 ghost use Rattle.integers.specs.Sum.{Within};
 
-// An i8 as an i64.
-pub fn widen(z: i8) -> i64
-    ensures { result ≡ z }
-{
-    z as i64
-}
-
 // An i64 that fits an i8, as one.
 pub fn narrow(z: i64) -> i8
     requires { Within z 127 }
@@ -43,15 +36,4 @@ pub fn pow2(n: usize) -> u64
     ensures { result ≡ 2 ^ n }
 {
     1u64 << (n as u64)
-}
-
-// |z|. The smallest i64 has no negation, so 1 is added last.
-pub fn magnitude(z: i64) -> u64
-    ensures { result ≡ nat_abs z }
-{
-    if z < 0 {
-        to_unsigned(-1 - z) + 1
-    } else {
-        to_unsigned(z)
-    }
 }

@@ -25,7 +25,14 @@ ghost use Rattle.job.specs.Header.{
   Limits,
 };
 ghost use Rattle.job.specs.Refusal.{first_refusal};
+ghost use Rattle.job.specs.Refused.{refusal_of};
 ghost use Rattle.job.specs.Rules.{last_step, most_scale, trace_steps, scaled_steps_out_of_range, scale_out_of_range, ScaleLimits, scale_factor, inner_unit};
+
+mod kinds; // kinds.rt: the kinds of a job
+mod refusals; // refusals.rt: why a call refuses
+
+pub use kinds::Kind;
+pub use refusals::Refused;
 
 // The largest order: the rows, and the columns, that arrays have room for.
 pub const ROWS: usize = 16;
@@ -38,7 +45,7 @@ pub const NUMBERS: usize = ROWS * (ROWS + 1);
 
 // The header of a job frame, with the order n as a number from 1: kind (0 polynomial, 1 rational, 2 system,
 // 3 sum of quotients), radix code, largest digit p, fraction bits f, order n, digits m.
-#[derive(Clone, Copy)]
+#[derive(Clone, Copy, PartialEq, Eq, Debug)]
 pub struct Header {
     pub kind: usize,
     pub code: usize,
@@ -46,13 +53,6 @@ pub struct Header {
     pub f: usize,
     pub n: usize,
     pub m: usize,
-}
-
-// A refusal number of document 01, 0 where there is none, and the row that is given with it.
-#[derive(Clone, Copy)]
-pub struct Verdict {
-    pub refusal: usize,
-    pub row: usize,
 }
 
 // The header whose fields are all 0, which goes with a refusal.
@@ -69,50 +69,24 @@ pub fn no_header() -> Header
     }
 }
 
-// The radix 2, 4, 8 or 16 of a radix code.
+// The radix 2, 4, 8 or 16 of a radix code. Made by a shift, so that the compiler knows it for a power of 2, and
+// multiplies by it with a shift: in readings each product waits for the one before.
 pub fn radix(code: usize) -> usize
-    requires { code ≤ 3 }
-    ensures { result ≡ radix code }
-{
-    if code == 0 {
-        return 2;
-    }
-    if code == 1 {
-        return 4;
-    }
-    if code == 2 {
-        return 8;
-    }
-    16
-}
-
-// The same number, made by a shift: the compiler then knows it for a power of 2, and multiplies by it with a
-// shift. For readings, where each product waits for the one before.
-pub fn radix_by_shift(code: usize) -> usize
     requires { code ≤ 3 }
     ensures { result ≡ radix code }
 {
     integers::pow2(code + 1) as usize
 }
 
-// How many numbers follow the header.
+// How many numbers follow the header: none where its kind is past the table.
 pub fn count(h: Header) -> usize
     requires { (1 ≤ h.n) × (h.n ≤ 16) }
     ensures { result ≡ count h }
 {
-    if h.kind == 0 {
-        return h.n + 1;
+    match Kind::of(h.kind) {
+        Some(kind) => kind.count(h.n),
+        None => 0,
     }
-    if h.kind == 1 {
-        return 2 * h.n;
-    }
-    if h.kind == 2 {
-        return h.n * (h.n + 1);
-    }
-    if h.kind == 3 {
-        return 3 * h.n - 2;
-    }
-    0
 }
 
 // Whether k digits take more than 60 bits: k × log2(r) above 60.
@@ -173,8 +147,8 @@ fn scale_bits(h: Header, s: usize) -> usize
     s * (h.code + 1)
 }
 
-// r × r^s: how many units of document 01's w make one of a row's sum. Made by a shift, as the number of
-// `radix_by_shift` is: a product by it then takes no longer than a shift.
+// r × r^s: how many units of document 01's w make one of a row's sum. Made by a shift, as `radix` is:
+// a product by it then takes no longer than a shift.
 pub fn sum_factor(h: Header, s: usize) -> usize
     requires { Limits h × ScaleLimits h s }
     ensures { result ≡ radix h.code * scale_factor h s }
@@ -208,10 +182,7 @@ fn trace_code(code: usize) -> bool
 fn unknown_kind(h: Header, known: bool) -> bool
     ensures { result ≡ unknown_kind known h }
 {
-    if 3 < h.kind {
-        return true;
-    }
-    !known
+    Kind::of(h.kind).is_none() || !known
 }
 
 // 14: n outside 1 to 16.
@@ -249,71 +220,71 @@ fn steps_out_of_range(h: Header) -> bool
 }
 
 // Refusals 3, 4 and 5.
-fn range_refusal(h: Header) -> usize
+fn check_ranges(h: Header) -> Result<(), Refused>
     requires { h.code ≤ 3 }
-    ensures { result ≡ first_refusal (range_checks h) }
+    ensures { refusal_of result ≡ first_refusal (range_checks h) }
 {
     if digit_out_of_range(h) {
-        return 3;
+        return Err(Refused::DigitOutOfRange);
     }
     if fraction_out_of_range(h) {
-        return 4;
+        return Err(Refused::FractionOutOfRange);
     }
     if steps_out_of_range(h) {
-        return 5;
+        return Err(Refused::StepsOutOfRange);
     }
-    0
+    Ok(())
 }
 
 // Refusals 2 to 5, where the radix code is known to the call or not.
-fn read_refusal_knowing(h: Header, known: bool) -> usize
+fn check_read_knowing(h: Header, known: bool) -> Result<(), Refused>
     requires { known ≡ true → h.code ≤ 3 }
-    ensures { result ≡ first_refusal (read_checks_knowing known h) }
+    ensures { refusal_of result ≡ first_refusal (read_checks_knowing known h) }
 {
     if unknown_kind(h, known) {
-        return 2;
+        return Err(Refused::UnknownKind);
     }
-    range_refusal(h)
+    check_ranges(h)
 }
 
 // Refusals 2, 14, 3, 4 and 5, where the radix code is known to the call or not.
-fn header_refusal_knowing(h: Header, known: bool) -> usize
+fn check_header_knowing(h: Header, known: bool) -> Result<(), Refused>
     requires { known ≡ true → h.code ≤ 3 }
-    ensures { result ≡ first_refusal (header_checks_knowing known h) }
+    ensures { refusal_of result ≡ first_refusal (header_checks_knowing known h) }
 {
     if unknown_kind(h, known) {
-        return 2;
+        return Err(Refused::UnknownKind);
     }
     if order_out_of_range(h) {
-        return 14;
+        return Err(Refused::OrderOutOfRange);
     }
-    range_refusal(h)
+    check_ranges(h)
 }
 
 // Refusals 2 to 5, of the header of a frame that was read.
-pub fn read_refusal(h: Header) -> usize
-    ensures { result ≡ first_refusal (read_checks h) }
+pub fn check_read(h: Header) -> Result<(), Refused>
+    ensures { refusal_of result ≡ first_refusal (read_checks h) }
 {
-    read_refusal_knowing(h, frame_code(h.code))
+    check_read_knowing(h, frame_code(h.code))
 }
 
 // Refusals 2, 14, 3, 4 and 5, of any numbers for the header of a frame or a state.
-pub fn header_refusal(h: Header) -> usize
-    ensures { result ≡ first_refusal (header_checks h) }
+pub fn check_header(h: Header) -> Result<(), Refused>
+    ensures { refusal_of result ≡ first_refusal (header_checks h) }
 {
-    header_refusal_knowing(h, frame_code(h.code))
+    check_header_knowing(h, frame_code(h.code))
 }
 
 // Refusals 2 to 5, of the header of a trace that was read.
-pub fn trace_read_refusal(h: Header) -> usize
-    ensures { result ≡ first_refusal (trace_read_checks h) }
+pub fn check_trace_read(h: Header) -> Result<(), Refused>
+    ensures { refusal_of result ≡ first_refusal (trace_read_checks h) }
 {
-    read_refusal_knowing(h, trace_code(h.code))
+    check_read_knowing(h, trace_code(h.code))
 }
 
 // Refusals 2, 14, 3, 4 and 5, of any numbers for the header of a trace.
-pub fn trace_header_refusal(h: Header) -> usize
-    ensures { result ≡ first_refusal (trace_header_checks h) }
+pub fn check_trace_header(h: Header) -> Result<(), Refused>
+    ensures { refusal_of result ≡ first_refusal (trace_header_checks h) }
 {
-    header_refusal_knowing(h, trace_code(h.code))
+    check_header_knowing(h, trace_code(h.code))
 }

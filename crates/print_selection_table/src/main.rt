@@ -14,8 +14,8 @@ const ROOM: usize = 4096;
 // Writes the table's text.
 fn write_text<W: Write>(out: &mut W) -> io::Result<()> {
     let mut text = [0u8; ROOM];
-    let w = table_text::write_table(&mut text);
-    match text.get(..w.length) {
+    let length = table_text::write_table(&mut text).ok();
+    match length.and_then(|n| text.get(..n)) {
         Some(lines) => out.write_all(lines),
         None => Err(io::Error::other("no room for the text")),
     }

@@ -6,8 +6,7 @@ use Prim.Native.Nat.{ℕ, ◌<◌, ◌≤◌}
 use borrow.Author.Tests.{lt-ltb, le-ltb}
 use lib.ListN.{length}
 use Rattle.text.specs.Text.{with_text}
-use Rattle.printout.specs.Printout.{frame_text, print_checks, print_answer, print_buffer, PrintDecided, text_room}
-use Rattle.printout.specs.declared.Printed.{Printed}
+use Rattle.printout.specs.Printout.{frame_text, print_checks, print_answer, print_buffer, Printed, PrintDecided, text_room}
 use Rattle.job.proofs.Refusal.{decided}
 
 pub print_decided : PrintDecided

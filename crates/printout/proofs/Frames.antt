@@ -1,32 +1,32 @@
 -- Whole frames: what load and advance make of one, and that the lines put are its text. Cited by the proof
 -- of `put_frame_text`.
-use mathlib.Core.Path.{◌≡◌, sym, ap, ◌∙◌}
+use mathlib.Core.Path.{◌≡◌, refl, sym, ap, ◌∙◌}
 use mathlib.Core.List.{List, [], ◌∷◌}
 use mathlib.Core.Logic.{◌⊎◌, inl, inr}
 use Prim.Native.Nat.{ℕ, ◌-◌, ◌<◌, ◌≤◌}
 use native.Mathlib.Omega.{arith}
 use borrow.Author.Tests.{eq-eqb, ne_eqb, le-leb, lt-leb}
-use lib.ListN.{length}
+use Rattle.std.specs.Prelude.{Result, Ok, Err}
 use Rattle.integers.proofs.Maximum.{le_or_lt}
 use Rattle.job.proofs.Limits.{last-least, last-small}
 use Rattle.job.specs.Refusal.{first_refusal}
 use Rattle.job.proofs.Refusal.{accepted-before}
+use Rattle.job.specs.declared.refusals.Refused.{Refused}
 use Rattle.frame.specs.Frame.{frame_refusal, frame_row, frame_numbers}
 use Rattle.header.specs.Header.{header_of}
 use Rattle.state.specs.State.{fresh, state_checks, state_last, PassesLimits}
 use Rattle.state.specs.declared.State.{State}
-use Rattle.evaluator.specs.Evaluator.{loaded, no_budget, all_made, advance_checks, advance_refusal, smaller, advanced}
+use Rattle.evaluator.specs.Evaluator.{Loaded, loaded, no_budget, all_made, advance_checks, advance_refusal, smaller, Advanced, advance_answer, advanced}
+use Rattle.evaluator.specs.declared.Steps.{Steps}
 use Rattle.stepping.specs.Steps.{steps}
-use Rattle.evaluator.specs.declared.Loaded.{Loaded}
-use Rattle.evaluator.specs.declared.Advanced.{Advanced}
 use Rattle.evaluator.proofs.Kept.{fresh_start, loaded-passes-limits, loaded-passes}
 use Rattle.evaluator.proofs.Theorems.{accepted_load, made-smaller}
-use Rattle.text.specs.Text.{with_text, Put}
+use Rattle.text.specs.declared.Page.{Page}
+use Rattle.text.specs.Text.{Written}
 use Rattle.printout.specs.Printout.{job_text, refused_text, with_all_steps, frame_text}
 
--- a text put at the front
-whole : {out after : List ℕ} {end : ℕ} (text : List ℕ) {lines : List ℕ} → text ≡ lines → Put out 0 lines after end → (end ≡ length text) × (after ≡ with_text out 0 text)
-whole text e p = rw e (omega (arith, p.ends), p.holds)
+whole : {page after : Page} (text : List ℕ) {lines : List ℕ} → text ≡ lines → Written page lines after → Written page text after
+whole text e p = rw e p
 
 -- ---- a fresh job makes all its steps with a budget of 60
 
@@ -48,6 +48,12 @@ module _ (t : State) (start : t.k ≡ 0) (p : first_refusal (state_checks t) ≡
       let e : state_last t - t.k ≡ state_last t = omega arith in
       ap (steps t) (rw e at (made-smaller t 60 advances) ∙ least_all (state_last t) most_steps)
 
+-- ---- the state that an advance gives, by whatever result
+
+state_given : (a : State × Result Steps Refused) → (advance_answer a).state ≡ a.0
+state_given (t, Ok d) = refl
+state_given (t, Err e) = refl
+
 -- ---- l is what load answered
 
 module _ (s : List ℕ) (l : Loaded) (e : l ≡ loaded s) where
@@ -59,13 +65,12 @@ module _ (s : List ℕ) (l : Loaded) (e : l ≡ loaded s) where
   unfolding loaded
   row_is = ap (λ (x : Loaded). x.row) e
 
-  pub refused_whole : {out after : List ℕ} {end : ℕ} → (l.refusal ≡ 0 → ⊥) → Put out 0 (refused_text l.refusal l.row) after end
-      → (end ≡ length (frame_text s)) × (after ≡ with_text out 0 (frame_text s))
+  pub refused_whole : {page after : Page} → (l.refusal ≡ 0 → ⊥) → Written page (refused_text l.refusal l.row) after → Written page (frame_text s) after
   unfolding frame_text
   refused_whole h p = whole (frame_text s) (rw (row_is, refusal_is, ne_eqb (frame_refusal s) 0 (rw refusal_is at h))) p
 
   -- and a is what advance made of it
-  module _ (z : l.refusal ≡ 0) (a : Advanced) (f : a ≡ advanced l.state 60) where
+  module _ (z : l.refusal ≡ 0) (a : State × Result Steps Refused) (f : advance_answer a ≡ advanced l.state 60) where
     accepted : frame_refusal s ≡ 0
     accepted = sym refusal_is ∙ z
 
@@ -82,17 +87,17 @@ module _ (s : List ℕ) (l : Loaded) (e : l ≡ loaded s) where
     unfolding steps
     passes = loaded-passes s accepted 0 (omega arith)
 
-    state_is : a.state ≡ with_all_steps job
+    state_is : a.0 ≡ with_all_steps job
     state_is =
-        ap (λ (x : Advanced). x.state) f
+        sym (state_given a)
+        ∙ ap (λ (x : Advanced). x.state) f
         ∙ ap (λ (t : State). (advanced t 60).state) loaded_is
         ∙ all_steps-made job (fresh_start (header_of s) (frame_numbers s)).1 passes (last-least job.header job.scale limits.scaled limits.limits)
         (last-small job.header job.scale limits.scaled)
 
-    pub printable : first_refusal (state_checks a.state) ≡ 0
+    pub printable : first_refusal (state_checks a.0) ≡ 0
     printable = rw state_is (loaded-passes s accepted (state_last job) (omega arith))
 
-    pub accepted_whole : {out after : List ℕ} {end : ℕ} → Put out 0 (job_text a.state) after end
-        → (end ≡ length (frame_text s)) × (after ≡ with_text out 0 (frame_text s))
+    pub accepted_whole : {page after : Page} → Written page (job_text a.0) after → Written page (frame_text s) after
     unfolding frame_text
     accepted_whole p = whole (frame_text s) (rw (eq-eqb (frame_refusal s) 0 accepted, state_is)) p

@@ -20,7 +20,8 @@ use Rattle.state.specs.declared.State.{State}
 use Rattle.evaluator.specs.Evaluator.{state_reading, readings_list_too_short, readings_checks, readings_refusal, readings_list}
 use Rattle.evaluator.proofs.Kept.{passes_exactly}
 use Rattle.evaluator.proofs.Theorems.{readings_front}
-use Rattle.text.specs.Text.{decimal, line_end, Put}
+use Rattle.text.specs.declared.Page.{Page}
+use Rattle.text.specs.Text.{decimal, line_end, Written}
 use Rattle.text.proofs.Putting.{length-decimal}
 use Rattle.printout.specs.Printout.{items_from, header_line}
 
@@ -70,7 +71,7 @@ module _ (s : State) (p : first_refusal (state_checks s) ≡ 0) where
       let z : 0 + i ≡ i = omega arith in
       rw e (sym (get_or-take n (readings_list s out) i (pos 0) l) ∙ f ∙ rw z at (getD_list_from 0 n (state_reading s) i l))
 
-  pub readings-put : {buf after : List ℕ} {m end : ℕ} (y out : List ℤ) → 16 ≤ length out → y ≡ readings_list s out
-      → Put buf m (line_end (items_from 0 s.header.n (at y))) after end
-      → Put buf m (line_end (items_from 0 s.header.n (state_reading s))) after end
+  pub readings-put : {page after : Page} (y out : List ℤ) → 16 ≤ length out → y ≡ readings_list s out
+      → Written page (line_end (items_from 0 s.header.n (at y))) after
+      → Written page (line_end (items_from 0 s.header.n (state_reading s))) after
   readings-put y out h e q = rw (items_ext 0 s.header.n (at y) (state_reading s) (λ j a l. reading-at y out j h e (omega arith))) at q

@@ -2,17 +2,16 @@
 -- for each step, its number and the digits by row; a line `=` and the readings. A refused frame prints one
 -- line: `refused`, the number, and the row for 8.
 use mathlib.Core.{Path.◌≡◌, Bool.Bool, Bool.cond, List.List, List.[], List.◌∷◌, List.◌++◌}
-use Rattle.std.specs.Prelude.{ℕ, zero, suc, ◌<◌}
+use Rattle.std.specs.Prelude.{ℕ, zero, suc, ◌<◌, Result, Ok, Err}
 use lib.{Dec.eqb, Dec.ltb, IntN.ℤ, ListN.length, ListN.take}
 use Rattle.bitfields.specs.Layout.{Bytes}
-use Rattle.job.specs.{Header.radix, Refusal.Check, Refusal.first_refusal, Refusal.Decides, declared.Header.Header}
+use Rattle.job.specs.{Header.radix, Refusal.Check, Refusal.first_refusal, Refusal.Decides, Refused.number_of, declared.Header.Header, declared.refusals.Refused.Refused}
 use Rattle.frame.specs.Frame.{frame_refusal, frame_row, frame_numbers, most_bytes}
 use Rattle.header.specs.Header.{header_of}
 use Rattle.state.specs.{State.digits_of, State.fresh, State.state_last, declared.State.State}
 use Rattle.stepping.specs.Steps.{steps}
 use Rattle.evaluator.specs.Evaluator.{state_reading}
 use Rattle.text.specs.Text.{decimal, signed_decimal, line, with_text}
-use Rattle.printout.specs.declared.Printed.{Printed}
 
 -- f i, f (i + 1), .. , k of them, in decimal
 unfoldable pub items_from : ℕ → ℕ → (ℕ → ℤ) → List (List ℕ)
@@ -82,6 +81,17 @@ print_refusal room = first_refusal (print_checks room)
 -- demand 1
 abbrev pub PrintDecided : Type 0
 PrintDecided = (room : ℕ) → Decides (print_checks room) (print_refusal room)
+
+-- what it answers in document 01's numbers: a refusal number of the call itself, 0 where there is none, and the
+-- number of bytes put
+pub record Printed : Type 0 where
+  pub refusal : ℕ
+  pub length : ℕ
+
+-- what its result says in these numbers
+abbrev pub printed : Result ℕ Refused → Printed
+printed (Ok n) = record { refusal = 0; length = n }
+printed (Err e) = record { refusal = number_of e; length = 0 }
 
 -- the number of bytes, 0 when refused
 unfoldable pub print_answer : List ℕ → ℕ → Printed

@@ -1,18 +1,17 @@
 // Calls on states that no load made: any numbers in any field, and jobs made from cases A and E with an x of
 // 3, of the scales 0 and 1, with random changes, so that some of them pass 24. After each call what its
-// contract says is looked at again, word by word: a refused advance makes 0 steps and no addition and gives
-// back every word of the state; an accepted one counts the growth of k, and keeps the header, the scale, the
-// matrix, the digits of the steps before and of the steps still to come, and all that stands past the n-th
-// row; a refused readings keeps every word of the list, and an accepted one keeps the words past the n-th; so
-// do the running sums, with the words that they count. It prints how many calls of advance, of readings and
-// of the running sums there were for each refusal number, 0 for the accepted ones, and `ok`; at a difference
-// it prints `wrong`.
+// contract says is looked at again, word by word: a refused advance gives back every word of the state; an
+// accepted one counts the growth of k, and keeps the header, the scale, the matrix, the digits of the steps
+// before and of the steps still to come, and all that stands past the n-th row; a refused readings keeps every
+// word of the list, and an accepted one keeps the words past the n-th; so do the running sums, with the words
+// that they count. It prints how many calls of advance, of readings and of the running sums there were for
+// each refusal number, 0 for the accepted ones, and `ok`; at a difference it prints `wrong`.
 //
 // Each turn makes the steps of these two jobs as well, by load, advance and readings, by evaluate and by
 // perform, which are to give the same words and to count as many additions.
 #![tactic(auto)]
 
-use emethod::{Advanced, Evaluated, Header, Loaded, State};
+use emethod::{Evaluation, Header, Refused, State, Steps};
 use job::ROWS;
 use state::DIGITS;
 use std::io;
@@ -106,35 +105,23 @@ fn random_state(seed: u64) -> State {
     }
 }
 
-// The steps of a frame's job that a budget allows.
-fn first_advance(frame: &[u8], budget: u64) -> Advanced {
-    let l: Loaded = emethod::load(frame);
-    emethod::advance(l.state, budget)
-}
-
-// The state of the job after them.
+// The state of a frame's job after the steps that a budget allows.
 fn job_after(frame: &[u8], budget: u64) -> State {
-    let a = first_advance(frame, budget);
-    a.state
+    let s = emethod::load(frame).unwrap_or(emethod::idle());
+    let (t, _) = emethod::advance(s, budget);
+    t
 }
 
 // One field of the header changed.
 fn changed_header(h: Header, which: u64, x: u64) -> Header {
     let mut t = h;
-    if which == 0 {
-        t.m = small(x, 62);
-    }
-    if which == 1 {
-        t.n = small(x, 18);
-    }
-    if which == 2 {
-        t.f = small(x, 42);
-    }
-    if which == 3 {
-        t.p = small(x, 3);
-    }
-    if which == 11 {
-        t.kind = small(x, 6);
+    match which {
+        0 => t.m = small(x, 62),
+        1 => t.n = small(x, 18),
+        2 => t.f = small(x, 42),
+        3 => t.p = small(x, 3),
+        11 => t.kind = small(x, 6),
+        _ => {}
     }
     t
 }
@@ -174,28 +161,14 @@ fn changed_job(seed: u64) -> State {
     let b = next(a);
     let mut s = job_of_either(a / 16 % 2, (b >> 32) % 7);
     let which = a % 13;
-    let h = changed_header(s.header, which, b);
-    s.header = h;
-    if which == 4 {
-        s.k = small(b, 8);
-    }
-    if which == 10 {
-        s.scale = small(b, 4);
-    }
-    if which == 5 || which == 6 {
-        let old = s.g;
-        let g = changed_matrix(old, b);
-        s.g = g;
-    }
-    if which == 7 {
-        let old = s.z;
-        let z = changed_residuals(old, b);
-        s.z = z;
-    }
-    if which == 8 || which == 9 {
-        let old = s.digits;
-        let d = changed_digits(old, b);
-        s.digits = d;
+    s.header = changed_header(s.header, which, b);
+    match which {
+        4 => s.k = small(b, 8),
+        5 | 6 => s.g = changed_matrix(s.g, b),
+        7 => s.z = changed_residuals(s.z, b),
+        8 | 9 => s.digits = changed_digits(s.digits, b),
+        10 => s.scale = small(b, 4),
+        _ => {}
     }
     s
 }
@@ -209,32 +182,58 @@ fn random_budget(x: u64) -> u64 {
     y % 4
 }
 
-// Adds one to the tally of a refusal number. No number is past the tallies, and none of them is near its end.
-fn tally(tallies: &mut [u64; TALLIES], refusal: usize) {
-    if refusal < TALLIES {
-        let c = tallies[refusal];
-        if c < 1000000 {
-            tallies[refusal] = c + 1;
-        }
+// How many calls of each kind there were for each refusal number, 0 for the accepted ones.
+#[derive(Drop)]
+struct Tallies {
+    advances: [u64; TALLIES],
+    readings: [u64; TALLIES],
+    sums: [u64; TALLIES],
+}
+
+// Adds one to the tally of a refusal's number, or of 0 for none. No number is past the tallies.
+fn tally(tallies: &mut [u64; TALLIES], refusal: Option<Refused>) {
+    let number = refusal.map_or(0, |e| e.number());
+    if let Some(n) = tallies.get_mut(number) {
+        *n = n.saturating_add(1);
     }
 }
 
-// Whether two headers have the same fields.
-fn same_header(a: Header, b: Header) -> bool {
-    a.kind == b.kind && a.code == b.code && a.p == b.p && a.f == b.f && a.n == b.n && a.m == b.m
+// The tally of a refusal number.
+fn tallied(tallies: &[u64; TALLIES], number: usize) -> u64 {
+    tallies.get(number).copied().unwrap_or(0)
 }
 
-// Whether two lists have the same words from the place `from` on.
-fn same_from(a: &[i64], b: &[i64], from: usize) -> bool {
-    for i in from..a.len() {
-        if b.len() <= i {
-            return false;
-        }
-        if a[i] != b[i] {
-            return false;
+impl Tallies {
+    fn new() -> Self {
+        Tallies {
+            advances: [0; TALLIES],
+            readings: [0; TALLIES],
+            sums: [0; TALLIES],
         }
     }
-    true
+
+    // Adds a call of advance.
+    fn add_advance(&mut self, refusal: Option<Refused>) {
+        tally(&mut self.advances, refusal);
+    }
+
+    // Adds a call of readings.
+    fn add_readings(&mut self, refusal: Option<Refused>) {
+        tally(&mut self.readings, refusal);
+    }
+
+    // Adds a call of the running sums.
+    fn add_sums(&mut self, refusal: Option<Refused>) {
+        tally(&mut self.sums, refusal);
+    }
+
+    // Prints the line of a refusal number: how many calls of advance, of readings and of the running sums gave it.
+    fn print_line(&self, rt: &impl Print, number: usize) -> io::Result<()> {
+        let advances = tallied(&self.advances, number);
+        let readings = tallied(&self.readings, number);
+        let sums = tallied(&self.sums, number);
+        println!(rt; "{number} {advances} {readings} {sums}")
+    }
 }
 
 // Whether the digit at the place i is one that steps may set: of one of the first n rows, in a step after the
@@ -245,43 +244,36 @@ fn may_change(i: usize, n: usize, k: usize, last: usize) -> bool {
 
 // Whether all digits are the same but those that steps may set.
 fn digits_kept(a: &[i8; DIGITS], b: &[i8; DIGITS], n: usize, k: usize, last: usize) -> bool {
-    for i in 0..DIGITS {
-        if a[i] != b[i] && !may_change(i, n, k, last) {
-            return false;
-        }
-    }
-    true
+    a.iter()
+        .zip(b)
+        .enumerate()
+        .all(|(i, (x, y))| x == y || may_change(i, n, k, last))
 }
 
 // Whether t has every word of s but those that steps set in the first n rows: k, the residuals, and the
 // digits of the steps after the k-th. With n = 0 it has every residual and every digit of s.
-fn words_kept(s: State, t: State, n: usize) -> bool {
+fn words_kept(s: &State, t: &State, n: usize) -> bool {
     s.busy == t.busy
-        && same_header(s.header, t.header)
+        && s.header == t.header
         && s.scale == t.scale
-        && same_from(&s.g, &t.g, 0)
-        && same_from(&s.z, &t.z, n)
+        && s.g == t.g
+        && s.z.get(n..) == t.z.get(n..)
         && digits_kept(&s.digits, &t.digits, n, s.k, t.k)
 }
 
 // Whether the count is the growth of k, above 0 and within the budget.
 fn count_right(before: usize, after: usize, made: u64, budget: u64) -> bool {
-    if after < before || made == 0 || budget < made {
-        return false;
-    }
-    (after - before) as u64 == made
+    0 < made && made <= budget && after.checked_sub(before) == Some(made as usize)
 }
 
-// An advance, and whether its answer and its state are right. With a refusal it counts 0 steps and 0
-// additions, and changes no word of the state.
-fn advance_right(s: State, budget: u64, tallies: &mut [u64; TALLIES]) -> bool {
-    let a = emethod::advance(s, budget);
-    tally(tallies, a.refusal);
-    let t = a.state;
-    if a.refusal != 0 {
-        return a.made == 0 && a.additions == 0 && t.k == s.k && words_kept(s, t, 0);
+// An advance, and whether its answer and its state are right. With a refusal it changes no word of the state.
+fn advance_right(s: State, budget: u64, tallies: &mut Tallies) -> bool {
+    let (t, answer) = emethod::advance(s, budget);
+    tallies.add_advance(answer.err());
+    match answer {
+        Ok(steps) => count_right(s.k, t.k, steps.made, budget) && words_kept(&s, &t, s.header.n),
+        Err(_) => t.k == s.k && words_kept(&s, &t, 0),
     }
-    count_right(s.k, t.k, a.made, budget) && words_kept(s, t, s.header.n)
 }
 
 // A readings call into the first `room` words of a list, and whether it keeps the words that it must: all
@@ -291,37 +283,33 @@ fn readings_right(
     before: &[i64],
     list: &mut [i64],
     room: usize,
-    tallies: &mut [u64; TALLIES],
+    tallies: &mut Tallies,
 ) -> bool {
-    if list.len() < room {
+    let Some(lent) = list.get_mut(..room) else {
         return false;
-    }
-    let refusal = emethod::readings(s, &mut list[0..room]);
-    tally(tallies, refusal);
-    if refusal != 0 {
-        return same_from(before, list, 0);
-    }
-    same_from(before, list, s.header.n)
+    };
+    let answer = emethod::readings(s, lent);
+    tallies.add_readings(answer.err());
+    let set = if answer.is_ok() { s.header.n } else { 0 };
+    before.get(set..) == list.get(set..)
 }
 
 // A call for the running sums into the first `room` words of a list, and whether it keeps the words that it
-// must: all that the list had `before`, of which it counts none, or those past the words that it counts.
+// must: all that the list had `before`, or those past the words that it counts.
 fn sums_right(
     s: State,
     before: &[i64],
     list: &mut [i64],
     room: usize,
-    tallies: &mut [u64; TALLIES],
+    tallies: &mut Tallies,
 ) -> bool {
-    if list.len() < room {
+    let Some(lent) = list.get_mut(..room) else {
         return false;
-    }
-    let w = emethod::running_sums(s, &mut list[0..room]);
-    tally(tallies, w.refusal);
-    if w.refusal != 0 {
-        return w.count == 0 && same_from(before, list, 0);
-    }
-    same_from(before, list, w.count)
+    };
+    let answer = emethod::running_sums(s, lent);
+    tallies.add_sums(answer.err());
+    let set = answer.unwrap_or(0);
+    before.get(set..) == list.get(set..)
 }
 
 // A state from the seed: now and then the idle one, one of any numbers, or a job made from case A or E.
@@ -336,103 +324,72 @@ fn pick(seed: u64) -> State {
 }
 
 // Whether an evaluation was accepted, has this scale, made so many steps, and gave the readings of the list.
-fn agrees(e: Evaluated, scale: usize, made: usize, readings: &[i64], list: &[i64]) -> bool {
-    e.refusal == 0 && e.scale == scale && e.made == made && same_from(readings, list, 0)
+fn agrees(e: Evaluation, scale: usize, made: usize, readings: &[i64], list: &[i64]) -> bool {
+    e.refusal.is_none() && e.scale == scale && e.made == made && readings == list
 }
 
-// Whether a count is the sum of two others.
-fn is_sum(count: usize, first: usize, second: usize) -> bool {
-    if count < first {
-        return false;
-    }
-    count - first == second
+// The additions of an advance: of one that is refused, none.
+fn additions(answer: Result<Steps, Refused>) -> usize {
+    answer.map_or(0, |steps| steps.additions)
 }
 
 // Whether a job of order 2 has the same scale, the same readings, as many steps and as many additions after
 // two advances by the three ways to make them.
 fn ways_agree(frame: &[u8], first: u64, second: u64) -> bool {
+    let Ok(job) = emethod::load(frame) else {
+        return false;
+    };
     let mut called = [0i64; 2];
     let mut evaluated = [0i64; 2];
     let mut performed = [0i64; 2];
-    let a = first_advance(frame, first);
-    let b = emethod::advance(a.state, second);
-    let s = b.state;
-    let refusal = emethod::readings(s, &mut called);
+    let (s, a) = emethod::advance(job, first);
+    let (s, b) = emethod::advance(s, second);
+    let read = emethod::readings(s, &mut called);
     let e = emethod::evaluate(frame, &[first, second], &mut evaluated);
     let p = emethod::perform(frame, &[0, first, 0, second, 1, 2], &mut performed);
-    refusal == 0
+    read.is_ok()
         && agrees(e, s.scale, s.k, &called, &evaluated)
         && agrees(p, s.scale, s.k, &called, &performed)
-        && is_sum(e.additions, a.additions, b.additions)
+        && additions(a).checked_add(additions(b)) == Some(e.additions)
         && p.additions == e.additions
 }
 
 // One state, an advance, a readings call and one for the running sums, and the three ways; whether all are
 // right. The lists lent have the words of some random matrix.
-fn turn(
-    seed: u64,
-    advances: &mut [u64; TALLIES],
-    reads: &mut [u64; TALLIES],
-    sums: &mut [u64; TALLIES],
-) -> bool {
+fn turn(seed: u64, tallies: &mut Tallies) -> bool {
     let s = pick(seed);
     let a = next(seed ^ 1);
     let b = next(a);
-    let other = random_state(b);
-    let before = other.g;
+    let before = random_state(b).g;
     let mut list = before;
     let mut words = before;
     ways_agree(b"\x01\x10\x44\x0c\x32\x00", a % 7, b % 7)
         && ways_agree(b"\x01\x10\x44\x0c\x92\x00", a % 7, b % 7)
-        && advance_right(s, random_budget(a), advances)
-        && readings_right(s, &before, &mut list, ((b >> 5) % 21) as usize, reads)
-        && sums_right(s, &before, &mut words, ((b >> 10) % 9) as usize, sums)
+        && advance_right(s, random_budget(a), tallies)
+        && readings_right(s, &before, &mut list, ((b >> 5) % 21) as usize, tallies)
+        && sums_right(s, &before, &mut words, ((b >> 10) % 9) as usize, tallies)
 }
 
 // As many turns as asked for, and whether all are right.
-fn turns(
-    most: usize,
-    advances: &mut [u64; TALLIES],
-    reads: &mut [u64; TALLIES],
-    sums: &mut [u64; TALLIES],
-) -> bool {
+fn turns(most: usize, tallies: &mut Tallies) -> bool {
     let mut x: u64 = 88172645463325252;
     for _ in 0..most {
         x = next(x);
-        if !turn(x >> 3, advances, reads, sums) {
+        if !turn(x >> 3, tallies) {
             return false;
         }
     }
     true
 }
 
-// A line: a refusal number, and how many calls of advance, of readings and of the running sums gave it.
-fn print_line(
-    rt: &impl Print,
-    refusal: usize,
-    advances: &[u64; TALLIES],
-    reads: &[u64; TALLIES],
-    sums: &[u64; TALLIES],
-) -> io::Result<()> {
-    if refusal < TALLIES {
-        let a = advances[refusal];
-        let r = reads[refusal];
-        let s = sums[refusal];
-        println!(rt; "{refusal} {a} {r} {s}")?;
-    }
-    Ok(())
-}
-
 fn main(rt: HostRuntime) -> io::Result<()> {
-    let mut advances = [0u64; TALLIES];
-    let mut reads = [0u64; TALLIES];
-    let mut sums = [0u64; TALLIES];
-    if !turns(4000, &mut advances, &mut reads, &mut sums) {
+    let mut tallies = Tallies::new();
+    if !turns(4000, &mut tallies) {
         return println!(rt; "wrong");
     }
-    print_line(&rt, 0, &advances, &reads, &sums)?;
-    for refusal in 20..25 {
-        print_line(&rt, refusal, &advances, &reads, &sums)?;
+    tallies.print_line(&rt, 0)?;
+    for number in 20..25 {
+        tallies.print_line(&rt, number)?;
     }
     println!(rt; "ok")
 }

@@ -17,9 +17,8 @@ use Rattle.state.specs.declared.State.{State}
 use Rattle.state.proofs.PassesLimits.{passes-limits}
 use Rattle.stepping.proofs.Kept.{keeps_limits}
 use Rattle.stepping.proofs.Limits.{may-sum-rows}
-use Rattle.running_sums.specs.RunningSums.{columns_below, words_below, word_count_below, last_digit, word_count, sums_list_too_short, sums_checks, sums_refusal, sums_written, sums_list}
+use Rattle.running_sums.specs.RunningSums.{SumsWritten, columns_below, words_below, word_count_below, last_digit, word_count, sums_list_too_short, sums_checks, sums_refusal, sums_written, sums_list}
 use Rattle.running_sums.specs.Inner.{MayPut}
-use Rattle.running_sums.specs.declared.SumsWritten.{SumsWritten}
 use Rattle.running_sums.proofs.Columns.{columns_alike, words_alike, words_most}
 
 -- what is to be shown where the code returns
@@ -31,21 +30,18 @@ refuses : (s : State) (out : List ℤ) (c : ℕ) → 0 < c → sums_refusal s (l
 unfolding sums_written sums_list
 refuses s out c h e = let q = ne_eqb c 0 (λ z. omega arith) in (rw (e, q) refl, rw (e, q) refl)
 
-module _ (s : State) (out : List ℤ) (bad : ℕ) (checked : bad ≡ first_refusal (state_checks s)) where
+module _ (s : State) (out : List ℤ) where
   abbrev n : ℕ
   n = s.header.n
 
   -- 20 and 24
-  pub state_refuses : 0 < bad → Answered s out bad 0 out
+  pub state_refuses : (c : ℕ) → c ≡ first_refusal (state_checks s) → 0 < c → Answered s out c 0 out
   unfolding sums_checks
-  state_refuses h = refuses s out bad h (refused-before (state_checks s) ((23, sums_list_too_short s (length out)) ∷ []) bad h (sym checked))
+  state_refuses c e h = refuses s out c h (refused-before (state_checks s) ((23, sums_list_too_short s (length out)) ∷ []) c h (sym e))
 
-  module _ (h : bad ≤ 0) where
-    unrefused : first_refusal (state_checks s) ≡ 0
-    unrefused = omega arith
-
+  module _ (passed : 0 ≡ first_refusal (state_checks s)) where
     passes : PassesLimits s
-    passes = from ((accepted_exactly (state_checks s) tt).0 unrefused)
+    passes = from ((accepted_exactly (state_checks s) tt).0 (sym passed))
       where
         from : None (state_checks s) → PassesLimits s
         from (also idle (also broken none)) = (passes-limits s).0 (fails _ broken)
@@ -56,7 +52,7 @@ module _ (s : State) (out : List ℤ) (bad : ℕ) (checked : bad ≡ first_refus
     -- the last check
     refusal_is : sums_refusal s (length out) ≡ first_refusal ((23, sums_list_too_short s (length out)) ∷ [])
     unfolding sums_checks
-    refusal_is = accepted-before (state_checks s) ((23, sums_list_too_short s (length out)) ∷ []) tt unrefused
+    refusal_is = accepted-before (state_checks s) ((23, sums_list_too_short s (length out)) ∷ []) tt (sym passed)
 
     -- `d` has the digits of the last step, and `c` columns are not skipped
     module _ (d : List ℤ) (ed : d ≡ flat_vector n (digits_of s.digits s.k)) (c : ℕ) (ec : c ≡ columns_below (at d) n) where

@@ -19,8 +19,7 @@ use Rattle.state.specs.State.{beyond, fresh, breaks_limit, digits_of}
 use Rattle.state.specs.declared.State.{State}
 use Rattle.state.proofs.PastOrder.{overwritten, overwritten_below}
 use Rattle.stepping.specs.Steps.{stepped_digits, stepped_residuals, steps, one_step}
-use Rattle.running_sums.specs.RunningSums.{words_below, columns_below, state_words, word_count, sums_checks, sums_refusal, sums_written, sums_list}
-use Rattle.running_sums.specs.declared.SumsWritten.{SumsWritten}
+use Rattle.running_sums.specs.RunningSums.{SumsWritten, words_below, columns_below, state_words, word_count, sums_checks, sums_refusal, sums_written, sums_list}
 use Rattle.running_sums.specs.Theorems.{SumsDecided, RefusedSums, NothingAtFirst, SumsBelow, SumsFront, SumsPast, ColumnStands, NextStepAdds}
 
 -- ---- polynomial, radix 2, f 4, n 2, m 4; x 3, p_0 3 and p_1 8: G has the entry 3 in row 1, column 2, and no

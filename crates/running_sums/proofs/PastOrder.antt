@@ -48,7 +48,9 @@ module _ {s t : State} (e : SameBelow s t) (out : List ℤ) where
   -- not refused by them
   module _ (h : c ≤ 0) where
     digit_alike : (i : ℕ) → i < s.header.n → last_digit s i ≡ last_digit t i
-    digit_alike i l = rw (← e.steps) (step_alike s.digits t.digits s.k i (may_copy_digits s out c refl h).0 (λ j m. e.digits j i m l))
+    digit_alike i l =
+        let passed : 0 ≡ c = omega arith in
+        rw (← e.steps) (step_alike s.digits t.digits s.k i (may_copy_digits s out passed).0 (λ j m. e.digits j i m l))
 
     count_alike : word_count s ≡ word_count t
     count_alike = rw (← e.header, columns_alike (last_digit s) (last_digit t) s.header.n digit_alike) refl

@@ -70,7 +70,7 @@ module _ {n : ℕ} {g d given : List ℤ} where
           words = rw (column_not_listed n g (at d) j e) h.words;
         }
 
-    -- one that is not: `x` is what `widen` gave of its digit, and `s'` what `add_column` left
+    -- one that is not: `x` is the i64 made of its digit, and `s'` what `add_column` left
     module _ (may : MayPut n g d (length given)) (l : j < n) (x : ℤ) (ex : x ≡ to_z w8 (of_z w8 (at d j))) where
       first : Start n g j 0
       first = (omega arith, λ i a b. absurd (omega arith))

@@ -2,13 +2,12 @@
 -- contract is an equality with `sums_written` and `sums_list`. Columns and rows count from 0 here; the number
 -- that is written for a column counts from 1.
 use mathlib.Core.{Bool.Bool, Bool.cond, List.List, List.[], List.◌∷◌, List.◌++◌}
-use Rattle.std.specs.Prelude.{ℕ, zero, suc, ◌+◌, ◌*◌}
+use Rattle.std.specs.Prelude.{ℕ, zero, suc, ◌+◌, ◌*◌, Result, Ok, Err}
 use lib.{Dec.ltb, Dec.eqb, IntN.ℤ, IntN.pos, ListN.length, ListN.drop}
 use Rattle.integers.specs.{Flat.entry, Flat.list_from, Sum.dot}
 use Rattle.column.specs.Column.{skipped}
-use Rattle.job.specs.Refusal.{Check, first_refusal}
+use Rattle.job.specs.{Refusal.Check, Refusal.first_refusal, Refused.number_of, declared.refusals.Refused.Refused}
 use Rattle.state.specs.{State.digits_of, State.state_checks, declared.State.State}
-use Rattle.running_sums.specs.declared.SumsWritten.{SumsWritten}
 
 -- ---- with the digits d, of a matrix of n rows
 
@@ -55,6 +54,16 @@ sums_checks s room = state_checks s ++ ((23, sums_list_too_short s room) ∷ [])
 
 abbrev pub sums_refusal : State → ℕ → ℕ
 sums_refusal s room = first_refusal (sums_checks s room)
+
+-- what the call answers in numbers: that of a refusal, 0 where there is none, and how many words it has written
+pub record SumsWritten : Type 0 where
+  pub refusal : ℕ
+  pub count : ℕ
+
+-- what a result of the call says in these numbers
+abbrev pub sums_result : Result ℕ Refused → SumsWritten
+sums_result (Ok n) = record { refusal = 0; count = n }
+sums_result (Err e) = record { refusal = number_of e; count = 0 }
 
 -- the answer: with a refusal no word is counted
 unfoldable pub sums_written : State → ℕ → SumsWritten

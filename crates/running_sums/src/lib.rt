@@ -12,19 +12,12 @@
 ghost use Rattle.std.specs.Prelude.{◌≡◌, ◌∷◌, ◌++◌, ◌+◌, ◌≤◌, pos, length, drop};
 ghost use Rattle.std.proofs.lemmas.List.Edits.{sets};
 ghost use Rattle.integers.specs.Flat.{at, list_from};
-ghost use Rattle.running_sums.specs.RunningSums.{columns_below, words_below, word_count_below, sums_written, sums_list};
+ghost use Rattle.running_sums.specs.RunningSums.{columns_below, words_below, word_count_below, sums_result, sums_written, sums_list};
 ghost use Rattle.running_sums.specs.Inner.{MayPut, MayPutColumn};
 
-use job::ROWS;
+use job::{ROWS, Refused};
 use state::State;
 use system::ENTRIES;
-
-// What the call answers: a refusal number, 0 where there is none, and how many words it has written.
-#[derive(Clone, Copy)]
-pub struct SumsWritten {
-    pub refusal: usize,
-    pub count: usize,
-}
 
 // How many of the columns below n are not skipped with the digits d.
 fn count_columns(d: &[i8; ROWS], n: usize) -> usize
@@ -63,34 +56,25 @@ fn put_sums(g: &[i64; ENTRIES], d: &[i8; ROWS], n: usize, out: &mut [i64])
     for j in 0..n {
         let digit = d[j];
         if digit != 0 {
-            column::add_column(g, j, 0, n, integers::widen(digit), &mut s);
+            column::add_column(g, j, 0, n, i64::from(digit), &mut s);
             put_column(j + 1, &s, n, out, to);
             to += n + 1;
         }
     }
 }
 
-// The running sums at the steps made, for each column that is not skipped.
-pub fn running_sums(s: State, out: &mut [i64]) -> SumsWritten
-    ensures answer { result ≡ sums_written s (length out.old) }
+// The running sums at the steps made, for each column that is not skipped. Gives how many words it has written.
+pub fn running_sums(s: State, out: &mut [i64]) -> Result<usize, Refused>
+    ensures answer { sums_result result ≡ sums_written s (length out.old) }
     ensures list { out.new ≡ sums_list s out.old }
 {
+    s.check()?;
     let n = s.header.n;
-    let bad = state::check(s.busy, s.header, s.scale, s.k, &s.g, &s.z, &s.digits);
-    if 0 < bad {
-        return SumsWritten {
-            refusal: bad,
-            count: 0,
-        };
-    }
     let d = stepping::last_digits(&s.digits, s.k, n);
     let count = (n + 1) * count_columns(&d, n);
     if out.len() < count {
-        return SumsWritten {
-            refusal: 23,
-            count: 0,
-        };
+        return Err(Refused::TooLittleRoom);
     }
     put_sums(&s.g, &d, n, out);
-    SumsWritten { refusal: 0, count }
+    Ok(count)
 }

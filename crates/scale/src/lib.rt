@@ -18,7 +18,7 @@ fn largest(z: &[i64; ROWS], n: usize) -> u64
 {
     let mut top: u64 = 0;
     for i in 0..n {
-        let a = integers::magnitude(z[i]);
+        let a = z[i].unsigned_abs();
         if top < a {
             top = a;
         }

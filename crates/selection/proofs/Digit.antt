@@ -20,7 +20,7 @@ use Rattle.selection.specs.Selection.{InTable, selection_table, estimate_count, 
 use Rattle.selection.proofs.Chosen.{within-table, place_natural, place_inside, entry-small, table_selects}
 use Rattle.selection.proofs.Held.{held_small}
 
--- ---- an entry: `t` is the table, and `z` what `widen` gave of its entry at place k
+-- ---- an entry: `t` is the table, and `z` the i64 made of its entry at place k
 
 pub entry_read : (k : ℕ) → k < estimate_count → (t : List ℤ) (z : ℤ) → t ≡ selection_table → z ≡ to_z w8 (of_z w8 (at t k)) → to_z w64 (of_z w64 z) ≡ at selection_table k
 entry_read k l t z e f =
@@ -50,7 +50,7 @@ module _ (e : ℤ) (h : InTable e) where
     pub place_below : k < estimate_count
     place_below = rw place_is (place_inside e h)
 
-    -- `t` is the table, and `z` what `widen` gave of its entry
+    -- `t` is the table, and `z` the i64 made of its entry
     module _ (t : List ℤ) (et : t ≡ selection_table) (z : ℤ) (ez : z ≡ to_z w8 (of_z w8 (at t k))) where
       pub entry-within : Within (to_z w64 (of_z w64 z)) 16
       entry-within = record { abs = rw (entry_read k place_below t z et ez) (entry-small k place_below) }

@@ -47,20 +47,36 @@ fn held_back(entry: i64, p: usize) -> i64
     lesser(raised, most)
 }
 
-// The digit of an estimate e: the table's entry at e + 512, held back.
-fn digit_at(choices: &[i8; ESTIMATES], e: i64, p: usize) -> i64
-    requires { (p ≤ 15) × InTable e × (choices.now ≡ selection_table) }
-    ensures { result ≡ table_digit p e }
-{
-    let place = integers::to_unsigned(e + 512) as usize;
-    held_back(integers::widen(choices[place]), p)
+// The table, as steps lend it to each choice: used at each choice, the array would be made each time.
+#[derive(Drop)]
+pub struct Choices {
+    entries: [i8; ESTIMATES],
+    ghost is_table: { entries ≡ selection_table },
 }
 
-// The digit that is taken off w. `choices` is the table, which the caller lends.
-pub fn select(choices: &[i8; ESTIMATES], w: i64, f: usize, p: usize) -> i64
-    requires { (4 ≤ f) × (f ≤ 44) × (p ≤ 15) × (bound_under * nat_abs w ≤ (bound_under * p + bound_over) * 2 ^ f) × (choices.now ≡ selection_table) }
-    ensures { result ≡ select p (2 ^ f) w }
-{
-    let e = estimate(w, f);
-    digit_at(choices, e, p)
+impl Choices {
+    // A value for the steps of one call.
+    pub fn new() -> Self {
+        let mut entries = [0i8; ESTIMATES];
+        fill_table(&mut entries);
+        Choices { entries }
+    }
+
+    // The digit of an estimate e: the table's entry at e + 512, held back.
+    fn digit_at(&self, e: i64, p: usize) -> i64
+        requires { (p ≤ 15) × InTable e }
+        ensures { result ≡ table_digit p e }
+    {
+        let place = integers::to_unsigned(e + 512) as usize;
+        held_back(i64::from(self.entries[place]), p)
+    }
+
+    // The digit that is taken off w.
+    pub fn select(&self, w: i64, f: usize, p: usize) -> i64
+        requires { (4 ≤ f) × (f ≤ 44) × (p ≤ 15) × (bound_under * nat_abs w ≤ (bound_under * p + bound_over) * 2 ^ f) }
+        ensures { result ≡ select p (2 ^ f) w }
+    {
+        let e = estimate(w, f);
+        self.digit_at(e, p)
+    }
 }

@@ -1,6 +1,6 @@
 -- The columns that are not skipped: where each stands in the table, how they are listed, and that the sum of
 -- those listed is the sum of all with their digits. Cited by the proofs of `column_place`,
--- `listed_sums`, `choose_and_list` and `step_by_signs`.
+-- `listed_sums`, `choose_and_list` and the `step` of `BySigns`.
 use mathlib.Core.Path.{◌≡◌, refl, sym, ap, ap₂, ◌∙◌}
 use mathlib.Core.Bool.{Bool, true, false}
 use mathlib.Core.List.{List, [], ◌∷◌}
@@ -11,10 +11,11 @@ use native.Mathlib.Numerals.{add-one}
 use native.Mathlib.Omega.{arith}
 use lib.IntN.{ℤ, pos, negsuc, nat_abs, ◌+ℤ◌, ◌-ℤ◌, ◌*ℤ◌, +ℤ_idr, *ℤ-zero}
 use lib.Signed.{◌≤ℤ◌}
-use lib.ListN.{length, get_or, set, length-set}
+use lib.ListN.{length, get_or, set, take, length-set}
 use lib.Seq.{get_or-set_same, get_or-set_other}
 use mir.Syntax.{w64}
 use mir.Val.{SFits, to_z, of_z}
+use Rattle.std.proofs.lemmas.List.{get_or-take, length-take-le}
 use Rattle.integers.proofs.Absolute.{abs-add, abs-mul, abs_parts}
 use Rattle.integers.proofs.Linear.{lins, by_le}
 use Rattle.integers.proofs.Maximum.{le_or_lt}
@@ -193,21 +194,40 @@ module _ {n : ℕ} {g t : List ℤ} (h : Columns n g t) (i j : ℕ) (m : i < 16)
 
 -- so the places listed may be added, and their sums are the rows' with the digits
 module _ {n : ℕ} {g t : List ℤ} {d : ℕ → ℤ} {list : List ℕ} {count : ℕ} (order : n ≤ 16) (h : Columns n g t) (signs : (j : ℕ) → j < n → nat_abs (d j) ≤ 1) (k : Listed n d list count) where
-  pub may-add_listed : MayAddListed t list count
-  may-add_listed =
-      record {
-        few = omega (arith, k.few);
-        inside = λ c l. omega (arith, k.each pos 496 (λ j m. place_most j (omega arith) (d j) (signs j m)) c l);
-        products = λ c i l m. k.each (λ p. at t (p + i)) (2 ^ 40) (λ j q. product_small h i j m q (d j) (signs j q)) c l;
-      }
+  -- those listed alone
+  abbrev places : List ℕ
+  places = take count list
+
+  how_many : length places ≡ count
+  how_many = length-take-le count list (omega (arith, k.size, k.few))
+
+  place_is : (c : ℕ) → c < count → get_or places c 0 ≡ get_or list c 0
+  place_is c l = get_or-take count list c 0 l
+
+  pub may-add_listed : MayAddListed t places (length places)
+  may-add_listed = rw how_many may_add_first
+    where
+      may_add_first : MayAddListed t places count
+      may_add_first =
+          record {
+            few = omega (arith, k.few);
+            inside = λ c l. rw (place_is c l) (omega (arith, k.each pos 496 (λ j m. place_most j (omega arith) (d j) (signs j m)) c l));
+            products = λ c i l m. rw (place_is c l) (k.each (λ p. at t (p + i)) (2 ^ 40) (λ j q. product_small h i j m q (d j) (signs j q)) c l);
+          }
+
+  sum_is : (i : ℕ) → sum (length places) (λ c. at t (get_or places c 0 + i)) ≡ sum count (λ c. at t (get_or list c 0 + i))
+  sum_is i =
+      rw how_many
+      (sum_ext count (λ c. at t (get_or places c 0 + i)) (λ c. at t (get_or list c 0 + i)) (λ c l. ap (λ (p : ℕ). at t (p + i)) (place_is c l)))
 
   -- `v` has the digits in an array
-  pub listed_summed : {v s : List ℤ} → ((j : ℕ) → j < n → at v j ≡ d j) → ListedSums t list count s → Summed n g v s
+  pub listed_summed : {v s : List ℤ} → ((j : ℕ) → j < n → at v j ≡ d j) → ListedSums t places (length places) s → Summed n g v s
   unfolding dot
   listed_summed {v} {s} same e =
       record {
         rows = λ i l.
             e i (omega arith)
+            ∙ sum_is i
             ∙ k.sums (λ p. at t (p + i))
             ∙ sum_ext n (λ j. brought (λ p. at t (p + i)) (d j) j) (λ j. entry g i j *ℤ at v j) (λ j m. product_is h i j (omega arith) m (d j) (signs j m) ∙ rw (h.entries i j l m, same j m) refl);
       }

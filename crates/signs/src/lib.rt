@@ -34,7 +34,7 @@ fn place_column(g: &[i64; ENTRIES], n: usize, j: usize, t: &mut [i64; BOTH]) -> 
 // The columns of the matrix and their negatives, each with its 16 rows one after the other, and in `entries`
 // how many of each column's entries are other than 0.
 pub fn columns(g: &[i64; ENTRIES], n: usize, entries: &mut [usize; ROWS]) -> [i64; BOTH]
-    requires { (n ≤ 16) × MayTabulate n g.now × (length entries.old ≡ 16) }
+    requires { (n ≤ 16) × MayTabulate n g.now }
     ensures columns { Columns n g.now result }
     ensures entries { Counts n (column_entries n g.now) entries.new }
 {
@@ -64,14 +64,14 @@ fn add_rows(t: &[i64; BOTH], place: usize, s: &mut [i64; ROWS])
     }
 }
 
-// The sums of the columns listed, one after the other.
-pub fn listed_sums<'a>(t: &'a [i64; BOTH], list: &'a [usize; ROWS], count: usize) -> [i64; ROWS]
-    requires { MayAddListed t.now list.now count }
-    ensures { ListedSums t.now list.now count result }
+// The sums of the columns that stand at the places listed, one after the other.
+pub fn listed_sums(t: &[i64; BOTH], list: &[usize]) -> [i64; ROWS]
+    requires { MayAddListed t.now list.now (length list.now) }
+    ensures { ListedSums t.now list.now (length list.now) result }
 {
     let mut s = [0i64; ROWS];
-    for c in 0..count {
-        add_rows(t, list[c], &mut s);
+    for place in list {
+        add_rows(t, *place, &mut s);
     }
     s
 }

@@ -1,5 +1,5 @@
 -- The rows in which a column can have an entry other than 0. Cited by the proofs of `column_start`,
--- `column_end` and the two that call them, and of `first_sums`.
+-- `column_end` and `column_span`, which calls them, and of `first_sums`.
 use mathlib.Core.Path.{◌≡◌, refl, sym, ◌∙◌}
 use mathlib.Core.List.{List}
 use mathlib.Core.Logic.{◌⊎◌, inl, inr}

@@ -17,9 +17,10 @@ use Rattle.integers.proofs.Maximum.{le_or_lt}
 use Rattle.integers.proofs.Normal.{solve, polys}
 use Rattle.integers.proofs.Product.{dot-zero, dot-suc, abs-dot, weight_le, entry_le_weight}
 use Rattle.column.specs.Column.{MayAddColumn, column_added, entries_added}
+use Rattle.column.specs.declared.Span.{Span}
 use Rattle.column.proofs.Added.{AddedBelow, column-next, span_rows, entry-rows}
 use Rattle.integers.specs.Flat.{filled}
-use Rattle.spans.specs.Inner.{row_dot, MaySum, MaySumRows, Start, End, Next, MayBegin, Begun, first_product}
+use Rattle.spans.specs.Inner.{row_dot, MaySum, MaySumRows, Start, End, IsSpan, MayBegin, Begun, first_product}
 use Rattle.integers.proofs.Filled.{length-filled, filled_past, filled_row, at-zeros}
 
 -- ---- what may be summed is small
@@ -69,13 +70,13 @@ begun_products {n} {g} {d} v order size e =
       rows = λ i l. rw e (filled_row (first_product g d) v n i l (omega (arith, size)));
     }
 
-pub begun_none : {n : ℕ} {g : List ℤ} (d : ℤ) {lo hi : ℕ} → n ≤ 16 → Start n g 0 lo → End n g 0 hi → hi ≤ lo → Begun n g d (replicate 16 (pos 0))
-begun_none {n} {g} d {lo} {hi} order a b h =
-    record { size = refl; rows = λ i l. at-zeros i ∙ sym (rw (none i l (le_or_lt hi i)) (zero-product d)) }
+pub begun_none : {n : ℕ} {g : List ℤ} (d : ℤ) {span : Span} → n ≤ 16 → IsSpan n g 0 span → span.end ≤ span.start → Begun n g d (replicate 16 (pos 0))
+begun_none {n} {g} d {span} order a h =
+    record { size = refl; rows = λ i l. at-zeros i ∙ sym (rw (none i l (le_or_lt span.end i)) (zero-product d)) }
   where
-    none : (i : ℕ) → i < n → (hi ≤ i) ⊎ (i < hi) → entry g i 0 ≡ pos 0
-    none i l (inl m) = b.1 i m l
-    none i l (inr m) = a.1 i (omega arith) (omega arith)
+    none : (i : ℕ) → i < n → (span.end ≤ i) ⊎ (i < span.end) → entry g i 0 ≡ pos 0
+    none i l (inl m) = a.ends.1 i m l
+    none i l (inr m) = a.starts.1 i (omega arith) (omega arith)
 
     zero-product : (d : ℤ) → pos 0 *ℤ d ≡ pos 0
     zero-product d = solve (d ∷ []) (search polys depth 9) (search polys depth 9) tt
@@ -94,7 +95,7 @@ sums_none n g d =
     record { size = refl; rows = λ i l. at-zeros i ∙ sym (dot-zero (entry g i) (at d)); past = λ i l. refl }
 
 module _ {n : ℕ} {g d : List ℤ} (order : n ≤ 16) (h : MaySumRows n g d) where
-  -- a digit as it is lent on: `x` is what `widen` gave of it
+  -- a digit as it is lent on: `x` is the i64 made of it
   lent : (j : ℕ) → j < n → (x : ℤ) → x ≡ to_z w8 (of_z w8 (at d j)) → to_z w64 (of_z w64 x) ≡ at d j
   lent j l x e =
       let b = bounded (at d j) 15 ((h j l).digits j l) in
@@ -112,7 +113,7 @@ module _ {n : ℕ} {g d : List ℤ} (order : n ≤ 16) (h : MaySumRows n g d) wh
       one : (i : ℕ) → entry g i 0 *ℤ at d 0 ≡ dot 1 (entry g i) (at d)
       one i = sym (dot-suc 0 (entry g i) (at d) ∙ rw (dot-zero (entry g i) (at d)) (+ℤ_idl (entry g i 0 *ℤ at d 0)))
 
-  -- one column more: `x` is what `widen` gave of its digit
+  -- one column more: `x` is the i64 made of its digit
   module _ {j : ℕ} {s₀ s : List ℤ} (l : j < n) (f : SoFar n j g d s₀ s) (x : ℤ) (ex : x ≡ to_z w8 (of_z w8 (at d j))) where
     digit_is : to_z w64 (of_z w64 x) ≡ at d j
     digit_is = lent j l x ex
@@ -141,20 +142,20 @@ module _ {n : ℕ} {g d : List ℤ} (order : n ≤ 16) (h : MaySumRows n g d) wh
         → SoFar n (j + 1) g d s₀ s'
     sums-more {lo} {hi} {s'} a b e = next_so_far (span_rows n j lo hi g s s' (at d j) room b.0 a.1 b.1 (rw digit_is at e))
 
-    -- the first entry y as it is lent on, and what `add_entries` left
-    module _ {lo next hi : ℕ} {y : ℤ} (a : Start n g j lo) (b : End n g j hi) (c : Next g j lo next) (k : y ≡ entry g lo j) where
-      pub may-add-entries : MayAddColumn g j next hi (to_z w64 (of_z w64 x)) s × (lo < next) × (lo < 16) × Within (at s lo) (2 ^ 48) × Within y (2 ^ 40)
+    -- its span, and what `add_entries` left
+    module _ {span : Span} (a : IsSpan n g j span) where
+      pub may-add-entries : MayAddColumn g j span.next span.end (to_z w64 (of_z w64 x)) s × (span.start < span.next) × (span.start < 16) × Within (at s span.start) (2 ^ 48) × Within span.first (2 ^ 40)
       may-add-entries = (
-        may-add-next b,
-        c.0,
-        omega (arith, a.0),
-        record { abs = sum-small lo a.0 },
-        record { abs = rw k (entry-small (h lo a.0) j l) },
+        may-add-next a.ends,
+        a.next.0,
+        omega (arith, a.starts.0),
+        record { abs = sum-small span.start a.starts.0 },
+        record { abs = rw a.first (entry-small (h span.start a.starts.0) j l) },
       )
 
-      pub entries-more : {s' : List ℤ} → s' ≡ entries_added g y j lo next hi (to_z w64 (of_z w64 x)) s → SoFar n (j + 1) g d s₀ s'
+      pub entries-more : {s' : List ℤ} → s' ≡ entries_added g span.first j span.start span.next span.end (to_z w64 (of_z w64 x)) s → SoFar n (j + 1) g d s₀ s'
       entries-more {s'} e =
-          next_so_far (entry-rows n j lo next hi g s s' y (at d j) room a.0 c.0 b.0 a.1 c.1 b.1 k (rw digit_is at e))
+          next_so_far (entry-rows n j span.start span.next span.end g s s' span.first (at d j) room a.starts.0 a.next.0 a.ends.0 a.starts.1 a.next.1 a.ends.1 a.first (rw digit_is at e))
 
   -- all columns: s₁ is what the sums began from
   pub sums_done : (s : List ℤ) {s₁ s₂ : List ℤ} → length s ≡ 16 → ((i : ℕ) → n ≤ i → at s₁ i ≡ at s i) → SoFar n n g d s₁ s₂ → s₂ ≡ filled (row_dot n g d) s n

@@ -3,9 +3,10 @@
 -- 2^48.
 use mathlib.Core.{Path.◌≡◌, List.List}
 use Rattle.std.specs.Prelude.{ℕ, ◌+◌, ◌^◌, ◌<◌, ◌≤◌}
-use lib.{IntN.ℤ, IntN.nat_abs, IntN.◌*ℤ◌, ListN.length, ListN.get_or}
+use lib.{IntN.ℤ, IntN.pos, IntN.nat_abs, IntN.◌*ℤ◌, ListN.length, ListN.get_or}
 use Rattle.integers.specs.{Flat.at, Flat.entry, Sum.dot, Sum.weight}
 use Rattle.column.specs.Column.{column, Zeros}
+use Rattle.column.specs.declared.Span.{Span}
 
 -- ---- the rows' sums
 
@@ -30,30 +31,35 @@ MaySumRows n g d = (i : ℕ) → i < n → MaySum g i n d
 
 -- ---- one column after the other, each multiplied by its digit
 
--- column j has no entry other than 0 before row lo; and one such row for each column
+-- column j has no entry other than 0 before row lo,
 abbrev pub Start : (n : ℕ) (g : List ℤ) (j lo : ℕ) → Type 0
 Start n g j lo = (lo < n) × Zeros (column g j) 0 lo
 
-abbrev pub Starts : (n : ℕ) (g : List ℤ) (starts : List ℕ) → Type 0
-Starts n g starts = (j : ℕ) → j < n → Start n g j (get_or starts j 0)
-
--- the entry of each column in the row where it starts
-abbrev pub Firsts : (n : ℕ) (g : List ℤ) (starts : List ℕ) (firsts : List ℤ) → Type 0
-Firsts n g starts firsts = (j : ℕ) → j < n → at firsts j ≡ entry g (get_or starts j 0) j
-
--- column j has none after row lo and before row next
+-- none after row lo and before row next,
 abbrev pub Next : (g : List ℤ) (j lo next : ℕ) → Type 0
 Next g j lo next = (lo < next) × Zeros (column g j) (lo + 1) next
 
-abbrev pub Nexts : (n : ℕ) (g : List ℤ) (starts nexts : List ℕ) → Type 0
-Nexts n g starts nexts = (j : ℕ) → j < n → Next g j (get_or starts j 0) (get_or nexts j 0)
-
--- column j has none from row hi on
+-- and none from row hi on
 abbrev pub End : (n : ℕ) (g : List ℤ) (j hi : ℕ) → Type 0
 End n g j hi = (hi ≤ n) × Zeros (column g j) hi n
 
-abbrev pub Ends : (n : ℕ) (g : List ℤ) (ends : List ℕ) → Type 0
-Ends n g ends = (j : ℕ) → j < n → End n g j (get_or ends j 0)
+-- all this is so of the rows of a column's span, which has the entry in the row where it starts
+pub record IsSpan (n : ℕ) (g : List ℤ) (j : ℕ) (span : Span) : Type 0 where
+  pub starts : Start n g j span.start
+  pub first : span.first ≡ entry g span.start j
+  pub next : Next g j span.start span.next
+  pub ends : End n g j span.end
+
+-- one such span for each column
+abbrev pub no_span : Span
+no_span = record { first = pos 0; start = 0; next = 0; end = 0 }
+
+abbrev pub AreSpans : (n : ℕ) (g : List ℤ) (spans : List Span) → Type 0
+AreSpans n g spans = (j : ℕ) → j < n → IsSpan n g j (get_or spans j no_span)
+
+-- a span for each column, of which its first row and the row after its last alone are right
+abbrev pub AreWithin : (n : ℕ) (g : List ℤ) (spans : List Span) → Type 0
+AreWithin n g spans = (j : ℕ) → j < n → Start n g j (get_or spans j no_span).start × End n g j (get_or spans j no_span).end
 
 -- the products of column 0 with the digit d fit
 pub record MayBegin (n : ℕ) (g : List ℤ) (d : ℤ) : Type 0 where

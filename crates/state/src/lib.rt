@@ -4,11 +4,12 @@
 
 ghost use Rattle.std.specs.Prelude.{◌≡◌, true, cond, ◌||◌, ◌+◌, ◌-◌, ◌<◌, ◌≤◌, ltb, nat_abs};
 ghost use Rattle.job.specs.Refusal.{first_refusal};
+ghost use Rattle.job.specs.Refused.{refusal_of};
 ghost use Rattle.system.specs.Rows.{first_row};
 ghost use Rattle.state.specs.State.{all_steps, beyond, idle_state, breaks_limit, state_checks};
-ghost use Rattle.state.specs.Inner.{mark_of, RowsBeyond, state_of};
+ghost use Rattle.state.specs.Inner.{mark_of, RowsBeyond};
 
-use job::{Header, ROWS, STEPS};
+use job::{Header, ROWS, Refused, STEPS};
 use system::ENTRIES;
 
 // The digits of all steps.
@@ -91,53 +92,41 @@ fn bad_digit(d: &[i8; DIGITS], n: usize, p: usize, k: usize) -> bool
     beyond(d, n, p, 0, k) | beyond(d, n, 0, k, STEPS - k)
 }
 
-// Refusal 24: a header field or the scale out of its limits, k above the last step, a heavy row, a residual
-// above its bound, a digit beyond p, or a digit other than 0 after the k-th step.
-fn breaks_limit<'a>(
-    h: Header,
-    scale: usize,
-    k: usize,
-    g: &'a [i64; ENTRIES],
-    z: &'a [i64; ROWS],
-    digits: &'a [i8; DIGITS],
-) -> bool
-    ensures { result ≡ breaks_limit (state_of true h scale k g.now z.now digits.now) }
-{
-    if 0 < job::header_refusal(h) {
-        return true;
+impl State {
+    // Refusal 24: a header field or the scale out of its limits, k above the last step, a heavy row, a residual
+    // above its bound, a digit beyond p, or a digit other than 0 after the k-th step.
+    fn breaks_limit(&self) -> bool
+        ensures { result ≡ breaks_limit self.now }
+    {
+        let h = self.header;
+        if job::check_header(h).is_err() {
+            return true;
+        }
+        if job::scale_out_of_range(h, self.scale) {
+            return true;
+        }
+        if job::last_step(h, self.scale) < self.k {
+            return true;
+        }
+        if system::heavy_row(&self.g, h).is_some() {
+            return true;
+        }
+        if system::large_residual(&self.z, h, self.scale).is_some() {
+            return true;
+        }
+        bad_digit(&self.digits, h.n, h.p, self.k)
     }
-    if job::scale_out_of_range(h, scale) {
-        return true;
-    }
-    if job::last_step(h, scale) < k {
-        return true;
-    }
-    if 0 < system::heavy_row(g, h) {
-        return true;
-    }
-    if 0 < system::large_residual(z, h, scale) {
-        return true;
-    }
-    bad_digit(digits, h.n, h.p, k)
-}
 
-// Refusals 20 and 24 of a state of any numbers, which is lent in parts.
-pub fn check<'a>(
-    busy: bool,
-    h: Header,
-    scale: usize,
-    k: usize,
-    g: &'a [i64; ENTRIES],
-    z: &'a [i64; ROWS],
-    digits: &'a [i8; DIGITS],
-) -> usize
-    ensures { result ≡ first_refusal (state_checks (state_of busy h scale k g.now z.now digits.now)) }
-{
-    if !busy {
-        return 20;
+    // Refusals 20 and 24 of a state of any numbers.
+    pub fn check(&self) -> Result<(), Refused>
+        ensures { refusal_of result ≡ first_refusal (state_checks self.now) }
+    {
+        if !self.busy {
+            return Err(Refused::Idle);
+        }
+        if self.breaks_limit() {
+            return Err(Refused::LimitBroken);
+        }
+        Ok(())
     }
-    if breaks_limit(h, scale, k, g, z, digits) {
-        return 24;
-    }
-    0
 }

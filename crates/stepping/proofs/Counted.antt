@@ -1,6 +1,5 @@
 -- The counts of a loop over steps: in how many of the steps up to the j-th each column's digit is other than
--- 0, and that after the last one the counts give the additions. Cited by the proofs of `run_by_spans` and
--- `run_by_signs`.
+-- 0, and that after the last one the counts give the additions. Cited by the proof of `run`.
 use mathlib.Core.Path.{◌≡◌, refl, sym, ap, ◌∙◌}
 use mathlib.Core.List.{List}
 use Prim.Native.Nat.{ℕ, suc, ◌+◌, ◌-◌, ◌*◌, ◌<◌, ◌≤◌}

@@ -17,6 +17,7 @@ use Rattle.recurrence.specs.Recurrence.{shifted, LightRows, WithinBounds}
 use Rattle.recurrence.proofs.Theorems.{bound}
 use Rattle.spans.specs.Inner.{row_dot, Summed, MaySumRows}
 use Rattle.choice.specs.Inner.{MayChoose}
+use Rattle.choice.specs.declared.units.Units.{Units}
 use Rattle.signs.specs.Inner.{MayTabulate}
 use Rattle.stepping.specs.Steps.{finer}
 use Rattle.choice.proofs.ShiftedResidual.{shifted_together}
@@ -59,18 +60,18 @@ module _ {n r c p u : ℕ} {g z d : List ℤ} (h : KeepsLimits n r c p u g z d) 
     sum-small : (i : ℕ) → i < n → nat_abs (at s i) ≤ 2 ^ 48
     sum-small i l = rw (sums.rows i l) (omega (arith, abs-dot n (entry g i) (at d) 15 (may-sum-rows i l).digits, h.weights i l))
 
-    pub may_choose_from : MayChoose n r (r * c) p u z s
+    pub may_choose_from : (w : Units) → w.r ≡ r → w.q ≡ r * c → w.p ≡ p → 2 ^ w.f ≡ u → MayChoose n w z s
     unfolding shifted
-    may_choose_from =
+    may_choose_from w er eq ep eu =
         record {
           order = h.order;
           rows = λ i l.
               record {
-                radix = h.radix.1;
-                units = mul-le-mul h.radix.1 h.factor;
-                largest = h.largest;
+                radix = rw er h.radix.1;
+                units = rw eq (mul-le-mul h.radix.1 h.factor);
+                largest = rw ep h.largest;
                 residual = omega (arith, h.within.z_small i l, h.unit-most);
                 sum = sum-small i l;
-                bound = rw (sums.rows i l, shifted_together (at z i) (row_dot n g d i) r c, ← dot-scale n (pos c) (entry g i) (at d)) (bound h.light h.within i l);
+                bound = rw (er, eq, ep, eu, sums.rows i l, shifted_together (at z i) (row_dot n g d i) r c, ← dot-scale n (pos c) (entry g i) (at d)) (bound h.light h.within i l);
               };
         }

@@ -3,7 +3,7 @@
 use mathlib.Core.Path.{◌≡◌, refl, sym, ◌∙◌}
 use mathlib.Core.List.{List}
 use mathlib.Core.Logic.{◌⊎◌, inl, inr}
-use Prim.Native.Nat.{ℕ, ◌*◌, ◌<◌, ◌≤◌}
+use Prim.Native.Nat.{ℕ, ◌*◌, ◌^◌, ◌<◌, ◌≤◌}
 use native.Mathlib.Omega.{arith}
 use lib.IntN.{ℤ, pos, nat_abs}
 use lib.ListN.{length, replicate}
@@ -20,6 +20,7 @@ use Rattle.job.specs.Rules.{bound_over, bound_under}
 use Rattle.integers.specs.Flat.{filled}
 use Rattle.stepping.specs.Steps.{finer, stepped_digits, stepped_residuals}
 use Rattle.choice.specs.Inner.{digit_from, residual_from}
+use Rattle.choice.specs.declared.units.Units.{Units}
 use Rattle.spans.specs.Inner.{row_dot, Summed}
 use Rattle.stepping.proofs.Limits.{KeepsLimits}
 use Rattle.choice.proofs.ShiftedResidual.{shifted_together}
@@ -72,14 +73,14 @@ module _ (n : ℕ) (g : List ℤ) {d : List ℤ} (order : n ≤ 16) (e : d ≡ r
       (λ i l. zeros-row i (le_or_lt n i))
 
 -- chosen from the rows' sums, digits and residuals are those of the step
-module _ {n : ℕ} {g d s : List ℤ} (sums : Summed n g d s) (r c p u : ℕ) (z : List ℤ) {q : ℕ} (e : q ≡ r * c) where
-  pub filled_stepped : filled (digit_from r q p u z s) (replicate 16 (pos 0)) n ≡ stepped_digits n r c p u g z d
+module _ {n : ℕ} {g d s : List ℤ} (sums : Summed n g d s) (w : Units) (c : ℕ) (z : List ℤ) (e : w.q ≡ w.r * c) where
+  pub filled_stepped : filled (digit_from w z s) (replicate 16 (pos 0)) n ≡ stepped_digits n w.r c w.p (2 ^ w.f) g z d
   unfolding stepped_digits next_digit shifted
-  filled_stepped = stores_ext _ _ _ _ n (λ i l. rw (e, sums.rows i l, shifted_together (at z i) (row_dot n g d i) r c, dot-scale n (pos c) (entry g i) (at d)) refl)
+  filled_stepped = stores_ext _ _ _ _ n (λ i l. rw (e, sums.rows i l, shifted_together (at z i) (row_dot n g d i) w.r c, dot-scale n (pos c) (entry g i) (at d)) refl)
 
-  pub filled-left : filled (residual_from r q p u z s) z n ≡ stepped_residuals n r c p u g z d
+  pub filled-left : filled (residual_from w z s) z n ≡ stepped_residuals n w.r c w.p (2 ^ w.f) g z d
   unfolding stepped_residuals next_residual next_digit shifted
-  filled-left = stores_ext _ _ _ _ n (λ i l. rw (e, sums.rows i l, shifted_together (at z i) (row_dot n g d i) r c, dot-scale n (pos c) (entry g i) (at d)) refl)
+  filled-left = stores_ext _ _ _ _ n (λ i l. rw (e, sums.rows i l, shifted_together (at z i) (row_dot n g d i) w.r c, dot-scale n (pos c) (entry g i) (at d)) refl)
 
 -- a step leaves what can make the next one; z' and d' are what it gave
 pub keeps_limits-next : {n r c p u : ℕ} {g z d z' d' : List ℤ} → 0 < u → KeepsLimits n r c p u g z d →

@@ -1,11 +1,11 @@
 -- One step, and a loop over steps: what a step's calls ask and leave, the arrays after j steps of a state,
--- and one turn of the loop. Cited by the proofs of `step_by_spans`, `step_by_signs`, `run_by_spans`,
--- `run_by_signs` and `advance`.
+-- and one turn of the loop. Cited by the proofs of the two forms' `step`, of `run` and
+-- of `advance`.
 use mathlib.Core.Path.{◌≡◌, refl, sym, ◌∙◌}
 use mathlib.Core.List.{List}
 use mathlib.Core.Logic.{◌⊎◌, inl, inr}
 use mathlib.Core.Bool.{Bool, true, cond}
-use Prim.Native.Nat.{ℕ, zero, suc, ◌+◌, ◌*◌, ◌<◌, ◌≤◌, ◌^◌}
+use Prim.Native.Nat.{ℕ, zero, suc, ◌+◌, ◌*◌, ◌^◌, ◌<◌, ◌≤◌}
 use native.Mathlib.Numerals.{add-one}
 use native.Mathlib.Omega.{arith}
 use borrow.Author.Tests.{le-ltb}
@@ -19,17 +19,18 @@ use Rattle.integers.proofs.Flat.{at-flat_vector, length-list_from, getD_list_fro
 use Rattle.integers.proofs.Stores.{length-stores, stores_ext}
 use Rattle.integers.proofs.Maximum.{le_or_lt}
 use Rattle.additions.specs.Additions.{nonzero}
-use Rattle.job.specs.Header.{radix}
+use Rattle.job.specs.Header.{Limits, radix}
 use Rattle.job.proofs.Limits as limits
 use Rattle.job.specs.declared.Header.{Header}
-use Rattle.selection.specs.Selection.{selection_table}
 use Rattle.integers.specs.Flat.{filled}
 use Rattle.stepping.specs.Steps.{last_digits, state_factor, chosen_digits, residuals_left, digits_stored, one_step, steps}
 use Rattle.choice.specs.Inner.{digit_from, residual_from, MayChoose}
 use Rattle.spans.specs.Inner.{row_dot, Summed, MaySumRows}
-use Rattle.stepping.specs.Inner.{FirstZero, Between, MayStepOnce, Stepped, MayStep}
+use Rattle.choice.specs.declared.units.Units.{Units}
+use Rattle.stepping.specs.declared.plan.Plan.{Plan}
+use Rattle.stepping.specs.Inner.{FirstZero, state_at, Between, MayStepOnce, Stepped, MayStep}
 use Rattle.counts.specs.Inner.{Counts}
-use Rattle.stepping.proofs.Limits.{KeepsLimits, may-sum-rows, may_choose_from}
+use Rattle.stepping.proofs.Limits.{KeepsLimits, may-sum-rows, may_choose_from, radix_two}
 use Rattle.choice.proofs.Chosen.{digit_most}
 use Rattle.stepping.proofs.Digits.{first_zero}
 use Rattle.stepping.proofs.Stepped.{length-stepped_digits, stepped_digit_past, filled-summed, filled_stepped, filled-left, keeps_limits-next}
@@ -103,61 +104,81 @@ pub may-sum_first : {s : State} {before : List ℤ} → PassesLimits s → befor
     → (s.header.n ≤ 16) × MaySumRows s.header.n s.g before × FirstZero s.k before
 may-sum_first {s} b e = (b.limits.order_most, may-sum-rows (first_limits b e), first_zero s.digits s.header.n s.k e)
 
--- p is the largest digit
-module _ {s : State} {r q bits : ℕ} {before sums : List ℤ} (a : MayStepOnce s r q bits before sums) {p : ℕ} (ep : p ≡ s.header.p) where
+-- the numbers by which the digits of s are chosen: its radix r, r r^s, its largest digit, and the bits of its
+-- residuals' unit
+pub record UnitsOf (s : State) (u : Units) : Type 0 where
+  pub radix_is : u.r ≡ radix s.header.code
+  pub sums_are : u.q ≡ u.r * state_factor s
+  pub largest_is : u.p ≡ s.header.p
+  pub bits_are : 2 ^ u.f ≡ state_unit s
+
+-- a job's are those of its plan
+pub units_of : (plan : Plan) (k : ℕ) (g z ds : List ℤ) → UnitsOf (state_at plan k g z ds) plan.units
+units_of plan k g z ds =
+    let o = plan.of_job in
+    record { radix_is = o.0; sums_are = rw o.0 o.1; largest_is = o.2; bits_are = o.3 }
+
+-- and in radix 2 so are these, of which the code writes r and p out
+abbrev pub two : Plan → Units
+two plan =
+    let i = plan.units.in_range in
+    record { r = 2; q = plan.units.q; p = 1; f = plan.units.f; in_range = i }
+
+pub units_of_two : (plan : Plan) (k : ℕ) (g z ds : List ℤ) (u : Units) → Limits plan.header → plan.header.p ≡ 1 → u.r ≡ 2 → u.q ≡ plan.units.q → u.p ≡ 1 → u.f ≡ plan.units.f → UnitsOf (state_at plan k g z ds) u
+units_of_two plan k g z ds u l e er eq ep ef =
+    let o = plan.of_job in
+    let r_is = er ∙ radix_two l e in
+    record { radix_is = r_is; sums_are = eq ∙ rw r_is o.1; largest_is = ep ∙ sym e; bits_are = rw ef o.3 }
+
+module _ {s : State} {before sums : List ℤ} (a : MayStepOnce s before sums) {u : Units} (o : UnitsOf s u) where
   abbrev n : ℕ
   n = s.header.n
 
-  abbrev u : ℕ
-  u = 2 ^ bits
+  every-row : MayChoose n u s.z sums
+  every-row =
+      may_choose_from (first_limits a.may.passes a.between.last) a.between.summed u o.radix_is (o.sums_are ∙ rw o.radix_is refl) o.largest_is o.bits_are
 
-  step_limits : KeepsLimits n r (state_factor s) p u s.g s.z before
-  step_limits = rw (ep, a.radix_is, a.bits_are.0) (first_limits a.may.passes a.between.last)
+  -- a digit can be chosen in every row, and is at most p
+  pub may_choose : (s.k < 60) × MayChoose n u s.z sums
+  may_choose = (omega (arith, steps_have_room a.may), every-row)
 
-  every-row : MayChoose n r q p u s.z sums
-  every-row = rw a.units_are (may_choose_from step_limits a.between.summed)
-
-  -- a digit can be chosen in every row, and is at most p: `choices` is the table that is lent
-  pub may_choose : {choices : List ℤ} → choices ≡ selection_table → (choices ≡ selection_table) × (s.k < 60) × (4 ≤ bits) × (bits ≤ 44) × MayChoose n r q p u s.z sums
-  may_choose t = (t, omega (arith, steps_have_room a.may), a.bits_are.1, a.bits_are.2, every-row)
-
-  pub digits-most : (i : ℕ) → i < n → nat_abs (digit_from r q p u s.z sums i) ≤ p
-  digits-most i l = digit_most (pow_pos bits) (every-row.rows i l)
+  pub digits-most : (i : ℕ) → i < n → nat_abs (digit_from u s.z sums i) ≤ u.p
+  digits-most i l = digit_most (every-row.rows i l)
 
   -- `new` has what the choice left in the vector being chosen
-  module _ {new : List ℤ} (ec : new ≡ filled (digit_from r q p u s.z sums) (replicate 16 (pos 0)) n) where
+  module _ {new : List ℤ} (ec : new ≡ filled (digit_from u s.z sums) (replicate 16 (pos 0)) n) where
     new_is : new ≡ chosen_digits s
     new_is =
-        ec ∙ filled_stepped a.between.summed r (state_factor s) p u s.z a.units_are
-        ∙ rw (ep, a.radix_is, a.bits_are.0, a.between.last) refl
+        ec ∙ filled_stepped a.between.summed u (state_factor s) s.z o.sums_are
+        ∙ rw (o.largest_is, o.radix_is, o.bits_are, a.between.last) refl
 
     next-limits : KeepsLimits n (radix s.header.code) (state_factor s) s.header.p (state_unit s) s.g (residuals_left s) new
     next-limits =
-        keeps_limits-next (rw a.bits_are.0 at (pow_pos bits)) (keeps_limits s a.may.passes) refl new_is
+        keeps_limits-next (rw o.bits_are at (pow_pos u.f)) (keeps_limits s a.may.passes) refl new_is
 
     -- the rows can be summed with it
     pub may-sum : MaySumRows n s.g new
     may-sum = may-sum-rows next-limits
 
     -- in the rows below n it has the digits chosen, and only these are stored
-    pub new_row : (i : ℕ) → i < n → at new i ≡ digit_from r q p u s.z sums i
+    pub new_row : (i : ℕ) → i < n → at new i ≡ digit_from u s.z sums i
     new_row i l =
-        rw ec (filled_row (digit_from r q p u s.z sums) (replicate 16 (pos 0)) n i l (omega (arith, a.may.passes.limits.order_most)))
+        rw ec (filled_row (digit_from u s.z sums) (replicate 16 (pos 0)) n i l (omega (arith, a.may.passes.limits.order_most)))
 
-    new_stored : stores s.digits (λ i. 16 * s.k + i) (digit_from r q p u s.z sums) n ≡ digits_stored n s.k s.digits new
+    new_stored : stores s.digits (λ i. 16 * s.k + i) (digit_from u s.z sums) n ≡ digits_stored n s.k s.digits new
     new_stored = stores_ext _ _ _ _ n (λ i l. sym (new_row i l))
 
     -- they are counted, from t₀ on
-    pub new_counted : (t₀ : List ℕ) {t : List ℕ} → Counts n (λ j. get_or t₀ j 0 + nonzero (digit_from r q p u s.z sums j)) t → Counts n (λ j. get_or t₀ j 0 + nonzero (at new j)) t
+    pub new_counted : (t₀ : List ℕ) {t : List ℕ} → Counts n (λ j. get_or t₀ j 0 + nonzero (digit_from u s.z sums j)) t → Counts n (λ j. get_or t₀ j 0 + nonzero (at new j)) t
     new_counted t₀ h = record { size = h.size; columns = λ j l. h.columns j l ∙ rw (new_row j l) refl }
 
     -- and the step is made: `z` and `ds` have what the choice left, and `sums'` the rows' sums
-    pub stepped : {z ds sums' : List ℤ} → z ≡ filled (residual_from r q p u s.z sums) s.z n → ds ≡ stores s.digits (λ i. 16 * s.k + i) (digit_from r q p u s.z sums) n
+    pub stepped : {z ds sums' : List ℤ} → z ≡ filled (residual_from u s.z sums) s.z n → ds ≡ stores s.digits (λ i. 16 * s.k + i) (digit_from u s.z sums) n
         → Summed n s.g new sums' → Stepped s z ds new sums'
     unfolding one_step
     stepped ez ed es =
         record {
-          residuals = ez ∙ filled-left a.between.summed r (state_factor s) p u s.z a.units_are ∙ rw (ep, a.radix_is, a.bits_are.0, a.between.last) refl;
+          residuals = ez ∙ filled-left a.between.summed u (state_factor s) s.z o.sums_are ∙ rw (o.largest_is, o.radix_is, o.bits_are, a.between.last) refl;
           digits = ed ∙ new_stored ∙ rw new_is refl;
           newest = new_is;
           summed = es;
@@ -199,17 +220,8 @@ module _ {s : State} {made j : ℕ} {ds z before sums : List ℤ} (b : MayStep s
       }
 
   -- one more can be made of it
-  pub reached_may : (r q bits : ℕ) → r ≡ radix s.header.code → q ≡ radix s.header.code * state_factor s → (2 ^ bits ≡ state_unit s) × (4 ≤ bits) × (bits ≤ 44)
-      → MayStepOnce now_is r q bits before sums
-  reached_may r q bits e o f =
-      rw whole
-      (record {
-        may = left;
-        radix_is = e ∙ rw (steps-header s j) refl;
-        units_are = o ∙ rw (e, steps-header s j, steps-scale s j) refl;
-        bits_are = (f.0 ∙ rw (steps-header s j, steps-scale s j) refl, f.1, f.2);
-        between = h.between;
-      })
+  pub reached_may : MayStepOnce now_is before sums
+  reached_may = rw whole (record { may = left; between = h.between })
 
   -- and the digits that it chooses are found again where it stored them
   copied : last_digits (one_step S) ≡ chosen_digits S

@@ -6,24 +6,29 @@
 // with the recurrence.
 #![tactic(auto)]
 
-ghost use Rattle.std.specs.Prelude.{◌≡◌, ◌≢◌, true, ◌+◌, ◌-◌, ◌*◌, ◌≤◌, pos, length, get_or, replicate};
+ghost use Rattle.std.specs.Prelude.{◌≡◌, ◌≢◌, true, ◌+◌, ◌-◌, ◌*◌, ◌≤◌, pos, get_or, replicate, List, ℤ};
 ghost use Rattle.integers.specs.Flat.{at, flat_vector};
 ghost use Rattle.additions.specs.Additions.{nonzero};
-ghost use Rattle.selection.specs.Selection.{selection_table};
-ghost use Rattle.spans.specs.Inner.{row_dot, MaySumRows, Starts, Ends, Firsts, Nexts};
-ghost use Rattle.stepping.specs.Inner.{FirstZero, MayStepOnce, Stepped, MayStep};
+ghost use Rattle.spans.specs.Inner.{row_dot, MaySumRows, AreSpans};
+ghost use Rattle.stepping.specs.Inner.{FirstZero, state_at, MayStepOnce, Stepped, MayStep};
 ghost use Rattle.signs.specs.Inner.{Columns};
-ghost use Rattle.counts.specs.Inner.{Counts, MayCount};
+ghost use Rattle.counts.specs.Inner.{Counts, MayCount, column_entries};
 ghost use Rattle.state.specs.State.{digits_of};
 ghost use Rattle.state.specs.Inner.{state_of};
 ghost use Rattle.integers.specs.Flat.{filled};
 ghost use Rattle.stepping.specs.Steps.{steps, steps_additions};
 
+use choice::Units;
+use column::Span;
 use job::{Header, ROWS};
-use selection::ESTIMATES;
+use selection::Choices;
 use signs::BOTH;
 use state::DIGITS;
 use system::ENTRIES;
+
+mod plan; // plan.rt: what the steps of a job are made with
+
+use plan::Plan;
 
 // The digits of step k in the rows below n: 0 before the first step and past row n. In the array of all
 // digits those of a step start 16 after those of the step before.
@@ -44,7 +49,7 @@ pub fn last_digits(digits: &[i8; DIGITS], k: usize, n: usize) -> [i8; ROWS]
 
 // The sum of each row below n with the digits d of step k, with which steps begin, one column after the
 // other, and zeros past row n. Before the first step every digit is 0, and so is every sum.
-fn first_sums<'a>(g: &'a [i64; ENTRIES], d: &'a [i8; ROWS], n: usize, k: usize) -> [i64; ROWS]
+fn first_sums(g: &[i64; ENTRIES], d: &[i8; ROWS], n: usize, k: usize) -> [i64; ROWS]
     requires { (n ≤ 16) × MaySumRows n g.now d.now × FirstZero k d.now }
     ensures { result ≡ filled (row_dot n g.now d.now) (replicate 16 (pos 0)) n }
 {
@@ -53,200 +58,243 @@ fn first_sums<'a>(g: &'a [i64; ENTRIES], d: &'a [i8; ROWS], n: usize, k: usize) 
         return s;
     }
     for j in 0..n {
-        column::add_column(g, j, 0, n, integers::widen(d[j]), &mut s);
+        column::add_column(g, j, 0, n, i64::from(d[j]), &mut s);
     }
     s
 }
 
-// The step after the k-th, with each column multiplied by its digit. The vector of the step before and the
-// vector being chosen go in by value, and the one chosen comes back; the caller swaps the two. The one being
-// chosen is cleared first: what it held two steps before is no part of this one, and so no step waits for a
-// copy of digits that were just written one by one. `sums` comes in with the rows' sums with the step before,
-// whose digits the code need not look at again, and goes out with those of the next step, from the vector
-// just chosen.
-fn step_by_spans<'a>(
-    h: Header,
-    scale: usize,
-    r: usize,
-    q: usize,
-    bits: usize,
-    k: usize,
-    choices: &[i8; ESTIMATES],
-    g: &'a [i64; ENTRIES],
-    starts: &'a [usize; ROWS],
-    ends: &'a [usize; ROWS],
-    firsts: &'a [i64; ROWS],
-    nexts: &'a [usize; ROWS],
-    before: [i8; ROWS],
-    mut chosen: [i8; ROWS],
-    sums: &mut [i64; ROWS],
-    times: &mut [u8; ROWS],
-    z: &mut [i64; ROWS],
-    digits: &mut [i8; DIGITS],
-) -> [i8; ROWS]
-    requires { MayStepOnce (state_of true h scale k g.now z.old digits.old) r q bits before sums.old × Starts h.n g.now starts.now × Ends h.n g.now ends.now × Firsts h.n g.now starts.now firsts.now × Nexts h.n g.now starts.now nexts.now × (length sums.old ≡ 16) × (choices.now ≡ selection_table) × MayCount h.n times.old }
-    ensures step { Stepped (state_of true h scale k g.now z.old digits.old) z.new digits.new result sums.new }
-    ensures size { length sums.new ≡ 16 }
-    ensures counted { Counts h.n (λ j. get_or times.old j 0 + nonzero (at result j)) times.new }
-{
-    let n = h.n;
-    chosen = [0i8; ROWS];
-    choice::choose(choices, sums, z, &mut chosen, digits, n, k, r, q, bits, h.p);
-    spans::column_sums(g, starts, ends, firsts, nexts, &chosen, n, sums);
-    counts::count_digits(&chosen, n, times);
-    chosen
+// The rows' sums with the digits of the step before, and for each column in how many steps it is added.
+#[derive(Drop)]
+struct Work {
+    sums: [i64; ROWS],
+    times: [u8; ROWS],
 }
 
-// Makes the steps with each column multiplied by its digit. After each step the two vectors change places:
-// the one just chosen is the step before of the next.
-fn run_by_spans(
-    h: Header,
-    scale: usize,
-    k: usize,
-    made: usize,
-    choices: &[i8; ESTIMATES],
-    g: &[i64; ENTRIES],
-    z: &mut [i64; ROWS],
-    digits: &mut [i8; DIGITS],
-) -> usize
-    requires { MayStep (state_of true h scale k g.now z.old digits.old) made × (choices.now ≡ selection_table) }
-    ensures residuals { z.new ≡ (steps (state_of true h scale k g.now z.old digits.old) made).z }
-    ensures digits { digits.new ≡ (steps (state_of true h scale k g.now z.old digits.old) made).digits }
-    ensures additions { result ≡ steps_additions (state_of true h scale k g.now z.old digits.old) made }
-{
-    let n = h.n;
-    let r = job::radix_by_shift(h.code);
-    let q = job::sum_factor(h, scale);
-    let bits = job::inner_bits(h, scale);
-    let mut starts = [0usize; ROWS];
-    spans::column_starts(g, n, &mut starts);
-    let mut ends = [0usize; ROWS];
-    spans::column_ends(g, n, &mut ends);
-    let mut firsts = [0i64; ROWS];
-    let mut nexts = [0usize; ROWS];
-    spans::column_firsts(g, &starts, &ends, n, &mut firsts, &mut nexts);
-    let mut before = last_digits(digits, k, n);
-    let mut chosen = [0i8; ROWS];
-    let mut sums = first_sums(g, &before, n, k);
-    let mut times = counts::first_times(digits, k);
-    for j in 0..made {
-        let newest = step_by_spans(
-            h,
-            scale,
-            r,
-            q,
-            bits,
-            k + j,
+// How a step chooses its digits and adds the columns with them for the next step.
+trait Form {
+    ghost use Rattle.stepping.specs.declared.plan.Plan.{Plan};
+
+    // this is the form of the columns of g
+    ghost is_of: { Plan → (g : List ℤ) → Self → Type 0 };
+
+    // The step after the k-th. The vector of the step before and the vector being chosen go in by value, and
+    // the one chosen comes back; the caller swaps the two. The one being chosen is cleared first: what it held
+    // two steps before is no part of this one, and so no step waits for a copy of digits that were just
+    // written one by one. The sums in `work` come in with the step before, whose digits the code need not
+    // look at again, and go out with those of the next step, from the vector just chosen.
+    fn step(
+        &self,
+        plan: Plan,
+        choices: &Choices,
+        g: &[i64; ENTRIES],
+        k: usize,
+        before: [i8; ROWS],
+        chosen: [i8; ROWS],
+        work: &mut Work,
+        z: &mut [i64; ROWS],
+        digits: &mut [i8; DIGITS],
+    ) -> [i8; ROWS]
+        requires { MayStepOnce (state_at plan k g.now z.old digits.old) before work.old.sums × is_of plan g.now self.now × MayCount plan.header.n work.old.times }
+        ensures step { Stepped (state_at plan k g.now z.old digits.old) z.new digits.new result work.new.sums }
+        ensures counted { Counts plan.header.n (λ j. get_or work.old.times j 0 + nonzero (at result j)) work.new.times };
+
+    // How many entries other than 0 each column has.
+    fn entries(&self, plan: Plan, g: &[i64; ENTRIES]) -> [usize; ROWS]
+        requires { (plan.header.n ≤ 16) × is_of plan g.now self.now }
+        ensures { Counts plan.header.n (column_entries plan.header.n g.now) result };
+}
+
+// Each column is multiplied by its digit.
+#[derive(Drop)]
+struct BySpans<'a> {
+    spans: &'a [Span; ROWS],
+}
+
+impl<'a> Form for BySpans<'a> {
+    ghost is_of = { λ plan g form. AreSpans plan.header.n g form.spans.now };
+
+    fn step(
+        &self,
+        plan: Plan,
+        choices: &Choices,
+        g: &[i64; ENTRIES],
+        k: usize,
+        before: [i8; ROWS],
+        mut chosen: [i8; ROWS],
+        work: &mut Work,
+        z: &mut [i64; ROWS],
+        digits: &mut [i8; DIGITS],
+    ) -> [i8; ROWS] {
+        let n = plan.header.n;
+        chosen = [0i8; ROWS];
+        choice::choose(
             choices,
-            g,
-            &starts,
-            &ends,
-            &firsts,
-            &nexts,
-            before,
-            chosen,
-            &mut sums,
-            &mut times,
+            plan.units,
+            n,
+            k,
+            &work.sums,
             z,
+            &mut chosen,
             digits,
         );
-        chosen = before;
-        before = newest;
+        spans::column_sums(g, self.spans, &chosen, n, &mut work.sums);
+        counts::count_digits(&chosen, n, &mut work.times);
+        chosen
     }
-    let mut entries = [0usize; ROWS];
-    counts::entries(g, &starts, &ends, n, &mut entries);
-    counts::additions(&entries, &times, digits, k + made, n)
+
+    fn entries(&self, plan: Plan, g: &[i64; ENTRIES]) -> [usize; ROWS] {
+        let mut e = [0usize; ROWS];
+        counts::entries(g, self.spans, plan.header.n, &mut e);
+        e
+    }
 }
 
-// The same step in radix 2, with each column added or taken off, and those whose digit is 0 left out of the
-// list. The columns are those of g, which the contract alone names.
-fn step_by_signs<'a>(
-    h: Header,
-    scale: usize,
-    q: usize,
-    bits: usize,
-    k: usize,
-    choices: &[i8; ESTIMATES],
-    g: &'a [i64; ENTRIES],
+// In radix 2 each column is added or taken off, and those whose digit is 0 are left out of a list. The radix
+// and the largest digit are written out, so that the compiler knows them.
+#[derive(Drop)]
+struct BySigns<'a> {
     columns: &'a [i64; BOTH],
-    before: [i8; ROWS],
-    mut chosen: [i8; ROWS],
-    sums: &mut [i64; ROWS],
-    times: &mut [u8; ROWS],
-    z: &mut [i64; ROWS],
-    digits: &mut [i8; DIGITS],
-) -> [i8; ROWS]
-    requires { MayStepOnce (state_of true h scale k g.now z.old digits.old) 2 q bits before sums.old × Columns h.n g.now columns.now × (h.p ≡ 1) × (choices.now ≡ selection_table) × MayCount h.n times.old }
-    ensures step { Stepped (state_of true h scale k g.now z.old digits.old) z.new digits.new result sums.new }
-    ensures counted { Counts h.n (λ j. get_or times.old j 0 + nonzero (at result j)) times.new }
-{
-    let n = h.n;
-    chosen = [0i8; ROWS];
-    let mut list = [0usize; ROWS];
-    let count = choice::choose_and_list(
-        choices,
-        sums,
-        z,
-        &mut chosen,
-        digits,
-        times,
-        &mut list,
-        n,
-        k,
-        q,
-        bits,
-    );
-    *sums = signs::listed_sums(columns, &list, count);
-    chosen
+    entries: &'a [usize; ROWS],
 }
 
-// Makes the steps with each column added or taken off; the two vectors change places as above. The radix of
-// digits up to 1 is 2.
-fn run_by_signs(
-    h: Header,
-    scale: usize,
+impl<'a> Form for BySigns<'a> {
+    ghost is_of = { λ plan g form. Columns plan.header.n g form.columns.now × (plan.header.p ≡ 1) × Counts plan.header.n (column_entries plan.header.n g) form.entries.now };
+
+    fn step(
+        &self,
+        plan: Plan,
+        choices: &Choices,
+        g: &[i64; ENTRIES],
+        k: usize,
+        before: [i8; ROWS],
+        mut chosen: [i8; ROWS],
+        work: &mut Work,
+        z: &mut [i64; ROWS],
+        digits: &mut [i8; DIGITS],
+    ) -> [i8; ROWS] {
+        let n = plan.header.n;
+        let units = Units {
+            r: 2,
+            q: plan.units.q,
+            p: 1,
+            f: plan.units.f,
+        };
+        chosen = [0i8; ROWS];
+        let mut list = [0usize; ROWS];
+        let count = choice::choose_and_list(
+            choices,
+            units,
+            n,
+            k,
+            &work.sums,
+            z,
+            &mut chosen,
+            digits,
+            &mut work.times,
+            &mut list,
+        );
+        work.sums = signs::listed_sums(self.columns, &list[..count]);
+        chosen
+    }
+
+    fn entries(&self, _plan: Plan, _g: &[i64; ENTRIES]) -> [usize; ROWS] {
+        *self.entries
+    }
+}
+
+// Makes the steps. After each the two vectors change places: the one just chosen is the step before of the
+// next.
+fn run<F: Form>(
+    form: &F,
+    plan: Plan,
+    choices: &Choices,
+    g: &[i64; ENTRIES],
     k: usize,
     made: usize,
-    choices: &[i8; ESTIMATES],
-    g: &[i64; ENTRIES],
     z: &mut [i64; ROWS],
     digits: &mut [i8; DIGITS],
 ) -> usize
-    requires { MayStep (state_of true h scale k g.now z.old digits.old) made × (h.p ≡ 1) × (choices.now ≡ selection_table) }
-    ensures residuals { z.new ≡ (steps (state_of true h scale k g.now z.old digits.old) made).z }
-    ensures digits { digits.new ≡ (steps (state_of true h scale k g.now z.old digits.old) made).digits }
-    ensures additions { result ≡ steps_additions (state_of true h scale k g.now z.old digits.old) made }
+    requires { MayStep (state_at plan k g.now z.old digits.old) made × F.is_of plan g.now form.now }
+    ensures residuals { z.new ≡ (steps (state_at plan k g.now z.old digits.old) made).z }
+    ensures digits { digits.new ≡ (steps (state_at plan k g.now z.old digits.old) made).digits }
+    ensures additions { result ≡ steps_additions (state_at plan k g.now z.old digits.old) made }
 {
-    let n = h.n;
-    let q = job::sum_factor(h, scale);
-    let bits = job::inner_bits(h, scale);
-    let mut entries = [0usize; ROWS];
-    let columns = signs::columns(g, n, &mut entries);
+    let n = plan.header.n;
     let mut before = last_digits(digits, k, n);
     let mut chosen = [0i8; ROWS];
-    let mut sums = first_sums(g, &before, n, k);
-    let mut times = counts::first_times(digits, k);
+    let sums = first_sums(g, &before, n, k);
+    let times = counts::first_times(digits, k);
+    let mut work = Work { sums, times };
     for j in 0..made {
-        let newest = step_by_signs(
-            h,
-            scale,
-            q,
-            bits,
-            k + j,
+        let newest = form.step(
+            plan,
             choices,
             g,
-            &columns,
+            k + j,
             before,
             chosen,
-            &mut sums,
-            &mut times,
+            &mut work,
             z,
             digits,
         );
         chosen = before;
         before = newest;
     }
-    counts::additions(&entries, &times, digits, k + made, n)
+    let entries = form.entries(plan, g);
+    counts::additions(&entries, &work.times, digits, k + made, n)
+}
+
+// Makes the steps with each column multiplied by its digit. The arrays of a form are made in a function of its
+// own, where the compiler puts them in place: where both stand in one, it copies them.
+fn run_by_spans(
+    plan: Plan,
+    choices: &Choices,
+    g: &[i64; ENTRIES],
+    k: usize,
+    made: usize,
+    z: &mut [i64; ROWS],
+    digits: &mut [i8; DIGITS],
+) -> usize
+    requires { MayStep (state_at plan k g.now z.old digits.old) made }
+    ensures residuals { z.new ≡ (steps (state_at plan k g.now z.old digits.old) made).z }
+    ensures digits { digits.new ≡ (steps (state_at plan k g.now z.old digits.old) made).digits }
+    ensures additions { result ≡ steps_additions (state_at plan k g.now z.old digits.old) made }
+{
+    let spans = spans::column_spans(g, plan.header.n);
+    run(
+        &BySpans { spans: &spans },
+        plan,
+        choices,
+        g,
+        k,
+        made,
+        z,
+        digits,
+    )
+}
+
+// Makes them with each column added or taken off. The radix of digits up to 1 is 2.
+fn run_by_signs(
+    plan: Plan,
+    choices: &Choices,
+    g: &[i64; ENTRIES],
+    k: usize,
+    made: usize,
+    z: &mut [i64; ROWS],
+    digits: &mut [i8; DIGITS],
+) -> usize
+    requires { MayStep (state_at plan k g.now z.old digits.old) made × (plan.header.p ≡ 1) }
+    ensures residuals { z.new ≡ (steps (state_at plan k g.now z.old digits.old) made).z }
+    ensures digits { digits.new ≡ (steps (state_at plan k g.now z.old digits.old) made).digits }
+    ensures additions { result ≡ steps_additions (state_at plan k g.now z.old digits.old) made }
+{
+    let mut entries = [0usize; ROWS];
+    let columns = signs::columns(g, plan.header.n, &mut entries);
+    let form = BySigns {
+        columns: &columns,
+        entries: &entries,
+    };
+    run(&form, plan, choices, g, k, made, z, digits)
 }
 
 // Whether steps with columns added or taken off are likely to be faster, the time to place the columns
@@ -289,11 +337,11 @@ pub fn make_steps(
     ensures digits { digits.new ≡ (steps (state_of true h scale k g.now z.old digits.old) made).digits }
     ensures additions { result ≡ steps_additions (state_of true h scale k g.now z.old digits.old) made }
 {
-    let mut choices = [0i8; ESTIMATES];
-    selection::fill_table(&mut choices);
+    let plan = Plan::new(h, scale);
+    let choices = Choices::new();
     if signs_pay(g, h.n, h.p, made) {
-        run_by_signs(h, scale, k, made, &choices, g, z, digits)
+        run_by_signs(plan, &choices, g, k, made, z, digits)
     } else {
-        run_by_spans(h, scale, k, made, &choices, g, z, digits)
+        run_by_spans(plan, &choices, g, k, made, z, digits)
     }
 }

@@ -6,10 +6,11 @@ use mathlib.Core.Logic.{◌↔◌, ◌⊎◌, inl, inr}
 use Prim.Native.Nat.{ℕ, zero, suc, ◌+◌, ◌<◌, ◌≤◌}
 use native.Mathlib.Numerals.{add-one}
 use native.Mathlib.Omega.{arith}
-use borrow.Author.Tests.{le-ltb, ltb-false}
+use borrow.Author.Tests.{lt-ltb, le-ltb, ltb-false}
 use lib.Dec.{ltb}
 use Rattle.integers.proofs.Maximum.{le_or_lt, below_suc}
-use Rattle.system.specs.Rows.{first_row, first_row_from, Never, FirstRowIs, FirstRowFound, FirstRowNone}
+use Rattle.std.specs.Prelude.{Some, None, is_some}
+use Rattle.system.specs.Rows.{first_row, row_given, first_row_from, Never, FirstRowIs, FirstRowFound, FirstRowNone}
 
 pub never-zero : (t : ℕ → Bool) → Never 0 t
 never-zero t = record { never = λ j l. absurd (omega arith) }
@@ -93,9 +94,21 @@ first_row_ext n t s h = from_ext 0 n t s (λ j l. h j (omega arith))
 pub never-more : {t : ℕ → Bool} {i : ℕ} → Never i t → t i ≡ false → Never (i + 1) t
 never-more h e = rw add-one (never-suc h e)
 
-module _ (t : ℕ → Bool) (n i : ℕ) (h : Never i t) where
-  pub search_found : i < n → t i ≡ true → i + 1 ≡ first_row n t
-  search_found l e = add-one i ∙ sym ((first_row_is t n i).1 (record { inside = l; here = e; before = h }))
+-- a number found is given, and 0 is none
+given-found : (i n : ℕ) → i + 1 ≡ n → Some (i + 1) ≡ row_given n
+given-found i n e = rw (← e) (rw add-one refl)
 
-  pub search_over : i ≡ n → 0 ≡ first_row n t
-  search_over e = sym ((first_row-none t n).1 (rw e at h))
+given-none : (n : ℕ) → 0 ≡ n → None ≡ row_given n
+given-none n e = rw (← e) refl
+
+-- a row is given exactly where its number is not 0
+pub given_test : (n : ℕ) → is_some (row_given n) ≡ ltb 0 n
+given_test zero = refl
+given_test (suc n) = sym (lt-ltb 0 (suc n) (omega arith))
+
+module _ (t : ℕ → Bool) (n i : ℕ) (h : Never i t) where
+  pub search_found : i < n → t i ≡ true → Some (i + 1) ≡ row_given (first_row n t)
+  search_found l e = given-found i _ (add-one i ∙ sym ((first_row_is t n i).1 (record { inside = l; here = e; before = h })))
+
+  pub search_over : i ≡ n → None ≡ row_given (first_row n t)
+  search_over e = given-none _ (sym ((first_row-none t n).1 (rw e at h)))

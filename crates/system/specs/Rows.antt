@@ -1,7 +1,7 @@
 -- Rows that are too heavy (document 01, "The system"; refusal 8) and residuals that are too large, and the
 -- first row that is.
 use mathlib.Core.{Path.◌≡◌, Bool.Bool, Bool.true, Bool.false, Bool.not, Bool.cond, Logic.◌↔◌}
-use Rattle.std.specs.Prelude.{ℕ, zero, suc, ◌*◌, ◌-◌, ◌<◌}
+use Rattle.std.specs.Prelude.{ℕ, zero, suc, ◌*◌, ◌-◌, ◌<◌, Option, None, Some}
 use lib.{Dec.leb, IntN.ℤ, IntN.nat_abs}
 use Rattle.integers.specs.Sum.{weight}
 use Rattle.job.specs.{Header.radix, Header.unit, Rules.inner_unit, Rules.bound_over, Rules.bound_under, declared.Header.Header}
@@ -31,6 +31,11 @@ first_row_from i (suc k) t = cond (t i) (suc i) (first_row_from (suc i) k t)
 
 abbrev pub first_row : (n : ℕ) (t : ℕ → Bool) → ℕ
 first_row n t = first_row_from 0 n t
+
+-- a row's number as the code gives it, which has no row for 0
+abbrev pub row_given : ℕ → Option ℕ
+row_given zero = None
+row_given (suc i) = Some (suc i)
 
 -- no test of n rows is true
 pub record Never (n : ℕ) (t : ℕ → Bool) : Type 0 where

@@ -8,13 +8,13 @@ ghost use Rattle.std.specs.Prelude.{◌≡◌, cond, ◌+◌, ◌-◌, ◌*◌, 
 ghost use Rattle.integers.specs.Sum.{Within};
 ghost use Rattle.integers.specs.Flat.{at, entry, flat_vector, flat_matrix, stores};
 ghost use Rattle.job.specs.Header.{count, Limits};
-ghost use Rattle.job.specs.Kind.{kind_of};
+ghost use Rattle.job.specs.Kinds.{kind_named};
 ghost use Rattle.job.specs.Rules.{ScaleLimits};
-ghost use Rattle.system.specs.Rows.{first_row, heavy_row, large_residual};
+ghost use Rattle.system.specs.Rows.{first_row, row_given, heavy_row, large_residual};
 ghost use Rattle.system.specs.Inner.{largest_light, residual_most, Numbers, Apart, zeros, too_heavy, too_large};
 ghost use Rattle.system.specs.System.{denominator, system_entry, coefficient, subtrahend, quotients_entry, matrix_of, right_place, right_side_of};
 
-use job::{Header, ROWS};
+use job::{Header, Kind, ROWS};
 
 // The entries of a matrix: as many columns as rows.
 pub const ENTRIES: usize = ROWS * ROWS;
@@ -91,47 +91,39 @@ pub fn place_matrix(g: &mut [i64; ENTRIES], h: Header, v: &[i64])
     ensures { g.new ≡ flat_matrix h.n (matrix_of h v.now) }
 {
     let n = h.n;
-    if h.kind == 2 {
-        place_rows(g, n, integers::pow2(h.f), v);
-        return;
+    match Kind::of(h.kind).unwrap() {
+        Kind::Polynomial => place_argument(g, n, v[0]),
+        Kind::Rational => {
+            place_argument(g, n, v[0]);
+            place_denominator(g, n, v);
+        }
+        Kind::System => place_rows(g, n, integers::pow2(h.f), v),
+        Kind::Quotients => place_quotients(g, n, v),
     }
-    if h.kind == 3 {
-        place_quotients(g, n, v);
-        return;
-    }
-    place_argument(g, n, v[0]);
-    if h.kind == 0 {
-        return;
-    }
-    place_denominator(g, n, v);
 }
 
 // Where among the numbers the right-hand side of row i stands.
-fn right_place(kind: usize, n: usize, i: usize) -> usize
-    requires { (kind ≤ 3) × (i ≤ n) × (n ≤ 16) }
-    ensures { result ≡ right_place (kind_of kind) n i }
+fn right_place(kind: Kind, n: usize, i: usize) -> usize
+    requires { (i ≤ n) × (n ≤ 16) }
+    ensures { result ≡ right_place (kind_named kind) n i }
 {
-    if kind < 2 {
-        return 1 + i;
+    match kind {
+        Kind::Polynomial | Kind::Rational => 1 + i,
+        Kind::System => i * (n + 1) + n,
+        Kind::Quotients => if i == 0 { 0 } else { 3 * i - 1 },
     }
-    if kind == 2 {
-        return i * (n + 1) + n;
-    }
-    if i == 0 { 0 } else { 3 * i - 1 }
 }
 
 // How far behind it that of the next row stands, from row 1 on.
-fn right_stride(kind: usize, n: usize) -> usize
-    requires { (kind ≤ 3) × (n ≤ 16) }
-    ensures { Apart (kind_of kind) n result }
+fn right_stride(kind: Kind, n: usize) -> usize
+    requires { n ≤ 16 }
+    ensures { Apart (kind_named kind) n result }
 {
-    if kind < 2 {
-        return 1;
+    match kind {
+        Kind::Polynomial | Kind::Rational => 1,
+        Kind::System => n + 1,
+        Kind::Quotients => 3,
     }
-    if kind == 2 {
-        return n + 1;
-    }
-    3
 }
 
 // The right-hand sides of a job, from the numbers as they are sent. By strides, so that the kind is not asked
@@ -140,7 +132,7 @@ pub fn right_sides(h: Header, v: &[i64]) -> [i64; ROWS]
     requires { Limits h × (count h ≤ length v.now) }
     ensures { result ≡ flat_vector h.n (right_side_of h v.now) }
 {
-    let kind = h.kind;
+    let kind = Kind::of(h.kind).unwrap();
     let n = h.n;
     let mut z = [0i64; ROWS];
     z[0] = v[right_place(kind, n, 0)];
@@ -186,20 +178,20 @@ fn room_after(room: i64, e: i64) -> i64
     if e < 0 { room + e } else { room - e }
 }
 
-// The number, from 1, of the first row that weighs more than the limit; 0 where none does. Each row starts
-// with the limit as its room. A weight only grows from entry to entry, so a row is too heavy as soon as its
+// The number, from 1, of the first row that weighs more than the limit. Each row starts with the limit as its
+// room. A weight only grows from entry to entry, so a row is too heavy as soon as its
 // room falls below 0.
-fn first_heavy(g: &[i64; ENTRIES], n: usize, limit: i64) -> usize
+fn first_heavy(g: &[i64; ENTRIES], n: usize, limit: i64) -> Option<usize>
     requires { (n ≤ 16) × (pos 0 ≤ℤ limit) }
-    ensures { result ≡ first_row n (too_heavy limit n g.now) }
+    ensures { result ≡ row_given (first_row n (too_heavy limit n g.now)) }
 {
-    let mut heavy: usize = 0;
+    let mut heavy = None;
     'rows: for i in 0..n {
         let mut room = limit;
         for j in 0..n {
             room = room_after(room, g[16 * i + j]);
             if room < 0 {
-                heavy = i + 1;
+                heavy = Some(i + 1);
                 break 'rows;
             }
         }
@@ -215,32 +207,32 @@ fn above(e: i64, bound: i64) -> bool
     if bound < e { true } else { e < 0 - bound }
 }
 
-// The number, from 1, of the first row whose number is of a magnitude above the bound; 0 where none is.
-fn first_large(z: &[i64; ROWS], n: usize, most: i64) -> usize
+// The number, from 1, of the first row whose number is of a magnitude above the bound.
+fn first_large(z: &[i64; ROWS], n: usize, most: i64) -> Option<usize>
     requires { (n ≤ 16) × (pos 0 ≤ℤ most) }
-    ensures { result ≡ first_row n (too_large most z.now) }
+    ensures { result ≡ row_given (first_row n (too_large most z.now)) }
 {
     for i in 0..n {
         if above(z[i], most) {
-            return i + 1;
+            return Some(i + 1);
         }
     }
-    0
+    None
 }
 
-// The number of the first row that is too heavy, of any matrix; 0 where none is. Refusal 8 of a frame and its
-// limit under 24 of a state.
-pub fn heavy_row(g: &[i64; ENTRIES], h: Header) -> usize
+// The number of the first row that is too heavy, of any matrix. Refusal 8 of a frame and its limit under 24 of
+// a state.
+pub fn heavy_row(g: &[i64; ENTRIES], h: Header) -> Option<usize>
     requires { Limits h }
-    ensures { result ≡ heavy_row h (entry g.now) }
+    ensures { result ≡ row_given (heavy_row h (entry g.now)) }
 {
     first_heavy(g, h.n, largest_light(h))
 }
 
-// The number of the first row whose residual is above its bound at the scale s; 0 where none is.
-pub fn large_residual(z: &[i64; ROWS], h: Header, s: usize) -> usize
+// The number of the first row whose residual is above its bound at the scale s.
+pub fn large_residual(z: &[i64; ROWS], h: Header, s: usize) -> Option<usize>
     requires { Limits h × ScaleLimits h s }
-    ensures { result ≡ large_residual h s (at z.now) }
+    ensures { result ≡ row_given (large_residual h s (at z.now)) }
 {
     first_large(z, h.n, residual_most(h, s))
 }

@@ -8,8 +8,7 @@ use borrow.Author.Tests.{lt-ltb, le-ltb}
 use lib.ListN.{length}
 use Rattle.job.proofs.Refusal.{decided}
 use Rattle.text.specs.Text.{Put}
-use Rattle.table_text.specs.TableText.{table_text, table_room, table_checks, table_answer, table_buffer, TableDecided}
-use Rattle.table_text.specs.declared.TableWritten.{TableWritten}
+use Rattle.table_text.specs.TableText.{TableWritten, table_text, table_room, table_checks, table_answer, table_buffer, TableDecided}
 
 pub table_decided : TableDecided
 unfolding table_checks

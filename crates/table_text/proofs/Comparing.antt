@@ -14,10 +14,10 @@ use lib.Seq.{take-append_seam, drop-append_seam, drop-cons, drop-drop}
 use Rattle.integers.specs.Flat.{at}
 use Rattle.selection.specs.Selection.{estimate_count, selection_table}
 use Rattle.selection.proofs.Chosen.{table-length}
+use Rattle.std.specs.Prelude.{Option, Some, None}
 use Rattle.text.specs.Text.{with_text, Put}
-use Rattle.table_text.specs.TableText.{entry_line, entry_lines, table_text, begins_with, agreeing, compared, SameText}
-use Rattle.table_text.specs.declared.Compared.{Compared}
-use Rattle.table_text.proofs.Lines.{line_positive, first_lines, first_next, first_all}
+use Rattle.table_text.specs.TableText.{Compared, entry_line, entry_lines, table_text, begins_with, agreeing, table_compared, compared, SameText}
+use Rattle.table_text.proofs.Lines.{first_lines, first_next, first_all}
 
 -- ---- tests
 
@@ -25,9 +25,13 @@ refuted : (b : Bool) → (b ≡ true → ⊥) → b ≡ false
 refuted true h = absurd (h refl)
 refuted false h = refl
 
-cond-none : (b : Bool) (n : ℕ) → 0 < n → cond b n 0 ≡ 0 → b ≡ false
-cond-none true n h e = absurd (omega arith)
-cond-none false n h e = refl
+given-none : (b : Bool) (n : ℕ) → None ≡ cond b (Some n) None → b ≡ false
+given-none true n e = cc
+given-none false n e = refl
+
+given_some : (b : Bool) {n m : ℕ} → Some m ≡ cond b (Some n) None → (b ≡ true) × (n ≡ m)
+given_some true e = (refl, cc)
+given_some false e = cc
 
 cond_some : (b : Bool) (n : ℕ) {m : ℕ} → 0 < m → cond b n 0 ≡ m → (b ≡ true) × (n ≡ m)
 cond_some true n h e = (refl, e)
@@ -63,10 +67,10 @@ module _ (s : List ℕ) (from : ℕ) (z : ℤ) where
   abbrev stands : Bool
   stands = begins_with (drop from s) (entry_line z)
 
-  abbrev place_after : ℕ
-  place_after = cond stands (from + length (entry_line z)) 0
+  abbrev place_after : Option ℕ
+  place_after = cond stands (Some (from + length (entry_line z))) None
 
-  absent : (stands ≡ true → ⊥) → 0 ≡ place_after
+  absent : (stands ≡ true → ⊥) → None ≡ place_after
   absent h = rw (refuted stands h) refl
 
   -- `line` has z's line put at its front, and n is its length
@@ -77,20 +81,22 @@ module _ (s : List ℕ) (from : ℕ) (z : ℤ) where
         let e : n - 0 ≡ length (entry_line z) = omega (arith, p.ends) in
         rw (e, p.holds) (take-append_seam (entry_line z) (drop (0 + length (entry_line z)) out))
 
-    pub too_few : length s - from < n → 0 ≡ place_after
+    pub too_few : length s - from < n → None ≡ place_after
     too_few h = absent (λ t. omega (arith, p.ends, begins_short (drop from s) (entry_line z) t, length-drop from s))
 
     part_is : take (from + n - from) (drop from s) ≡ take (length (entry_line z)) (drop from s)
     part_is = let e : from + n - from ≡ length (entry_line z) = omega (arith, p.ends) in rw e
 
-    pub same_line : take (from + n - from) (drop from s) ≡ take (n - 0) line → from + n ≡ place_after
-    same_line h =
-        let t : stands ≡ true = take_begins (drop from s) (entry_line z) (sym part_is ∙ h ∙ line-put) in
-        rw t (omega (arith, p.ends))
+    -- `held` is what is held against s, and `b` is what `same` gave
+    pub same_line : {held : List ℕ} → take (from + n - from) (drop from s) ≡ take (n - 0) held → held ≡ line → Some (from + n) ≡ place_after
+    same_line h l =
+        let t : stands ≡ true = take_begins (drop from s) (entry_line z) (sym part_is ∙ rw l at h ∙ line-put) in
+        let e : n ≡ length (entry_line z) = omega (arith, p.ends) in
+        rw (t, e)
 
-    -- `b` is what `same` gave
-    pub other_line : {b : Bool} → b ≡ false → (take (from + n - from) (drop from s) ≡ take (n - 0) line → b ≡ true) → 0 ≡ place_after
-    other_line e h = absent (λ t. false≢true (sym e ∙ h (part_is ∙ begins_take (drop from s) (entry_line z) t ∙ sym line-put)))
+    pub other_line : {held : List ℕ} {b : Bool} → b ≡ false → (take (from + n - from) (drop from s) ≡ take (n - 0) held → b ≡ true) → held ≡ line
+        → None ≡ place_after
+    other_line e h l = absent (λ t. false≢true (sym e ∙ h (rw l (part_is ∙ begins_take (drop from s) (entry_line z) t ∙ sym line-put))))
 
 -- ---- the entries that agree
 
@@ -106,24 +112,24 @@ module _ (s : List ℕ) where
   unfolding entry_lines
   none_agreed = record { few = omega arith; inside = omega arith; place = refl; count = omega arith }
 
-  -- the next of the entries is `z`, and `end` is what `after_line` gave
-  module _ {k from : ℕ} (a : Agreed s k from) (h : k < estimate_count) {z : ℤ} (e : z ≡ at selection_table k) {end : ℕ} (f : end ≡ place_after s from z) where
+  -- the next of the entries is `z`, and `after_line` gave no place, or the place `end`
+  module _ {k from : ℕ} (a : Agreed s k from) (h : k < estimate_count) {z : ℤ} (e : z ≡ at selection_table k) where
     next-count : agreeing selection_table s ≡ k + cond (stands s from z) (suc (agreeing (drop (suc k) selection_table) (drop (from + length (entry_line z)) s))) 0
     unfolding agreeing
     next-count =
         a.count
         ∙ rw (drop-cons selection_table k (pos 0) (omega (arith, table-length)), ← e, ← drop-drop (length (entry_line z)) from s) refl
 
-    pub other_agree : end ≡ 0 → ◌≡◌ {A = Compared} (record { same = false; agreeing = k }) (compared s)
+    pub other_agree : None ≡ place_after s from z → table_compared (Some k) ≡ compared s
     unfolding compared
-    other_agree g =
-        let n : stands s from z ≡ false = cond-none (stands s from z) (from + length (entry_line z)) (omega (arith, line_positive z)) (sym f ∙ g) in
+    other_agree f =
+        let n : stands s from z ≡ false = given-none (stands s from z) _ f in
         let c : agreeing selection_table s ≡ k = next-count ∙ rw n (omega arith) in
         rw (c, ne_eqb k estimate_count (λ q. omega arith)) refl
 
-    pub next_agreed : (end ≡ 0 → ⊥) → Agreed s (k + 1) end
-    next_agreed g =
-        let y = cond_some (stands s from z) (from + length (entry_line z)) (omega (arith, g)) (sym f) in
+    pub next_agreed : {end : ℕ} → Some end ≡ place_after s from z → Agreed s (k + 1) end
+    next_agreed f =
+        let y = given_some (stands s from z) f in
         record {
           few = omega arith;
           inside = omega (arith, y.1, a.inside, begins_short (drop from s) (entry_line z) y.0, length-drop from s);
@@ -131,12 +137,19 @@ module _ (s : List ℕ) where
           count = rw (add-one k, ← y.1) (next-count ∙ rw y.0 (omega arith));
         }
 
-  pub all_agree : {k from : ℕ} → Agreed s k from → estimate_count ≤ k → ◌≡◌ {A = Compared} (record { same = eqb (length s) from; agreeing = estimate_count }) (compared s)
+  all_agree : {k from : ℕ} → Agreed s k from → estimate_count ≤ k → ◌≡◌ {A = Compared} (record { same = eqb (length s) from; agreeing = estimate_count }) (compared s)
   unfolding compared agreeing
   all_agree {k} {from} a h =
       let none : drop k selection_table ≡ [] = drop_of_length-le selection_table {i = k} (omega (arith, table-length)) in
       let c : agreeing selection_table s ≡ estimate_count = a.count ∙ rw none (omega arith) in
       rw (c, ← first_all k h, ← a.place) refl
+
+  -- nothing follows, or more does
+  pub none_differs : {k from : ℕ} → Agreed s k from → estimate_count ≤ k → length s ≡ from → table_compared None ≡ compared s
+  none_differs {k} {from} a h e = rw (eq-eqb (length s) from e) at (all_agree a h)
+
+  pub more_follows : {k from : ℕ} → Agreed s k from → estimate_count ≤ k → (length s ≡ from → ⊥) → table_compared (Some estimate_count) ≡ compared s
+  more_follows {k} {from} a h e = rw (ne_eqb (length s) from e) at (all_agree a h)
 
 -- ---- only the table's text is the same
 

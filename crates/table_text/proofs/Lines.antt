@@ -14,8 +14,9 @@ use Rattle.integers.specs.Flat.{at}
 use Rattle.integers.proofs.Maximum.{le_or_lt}
 use Rattle.selection.specs.Selection.{estimate_count, selection_table}
 use Rattle.selection.proofs.Chosen.{table-length, entry-small}
-use Rattle.text.specs.Text.{decimal_within, decimal, signed_decimal, line_end, HasRoom, Put}
-use Rattle.text.proofs.Putting.{put_nothing, put_then}
+use Rattle.text.specs.declared.Page.{Page}
+use Rattle.text.specs.Text.{decimal_within, decimal, signed_decimal, line_end, RoomFor, Written}
+use Rattle.text.proofs.Putting.{write_nothing, write_then}
 use Rattle.table_text.specs.TableText.{entry_line, entry_lines, table_text, table_room}
 
 -- ---- how long a line is
@@ -40,14 +41,11 @@ length-line z = length-append (signed_decimal z) (10 ∷ [])
 pub short_line : (z : ℤ) → nat_abs z ≤ 16 → length (entry_line z) ≤ 4
 short_line z h = omega (arith, length-line z, three_signs z h)
 
-pub line_positive : (z : ℤ) → 0 < length (entry_line z)
-line_positive z = omega (arith, length-line z)
-
 -- ---- a line put
 
-pub put-line : {out mid after : List ℕ} {at m end : ℕ} (z : ℤ) → Put out at (signed_decimal z) mid m → Put mid m (10 ∷ []) after end → Put out at (entry_line z) after end
+pub write-line : {page mid after : Page} (z : ℤ) → Written page (signed_decimal z) mid → Written mid (10 ∷ []) after → Written page (entry_line z) after
 unfolding line_end
-put-line z p q = put_then p q
+write-line z p q = write_then p q
 
 -- ---- the lines of the table's first k entries
 
@@ -84,19 +82,19 @@ first_short (suc k) h =
 
 -- ---- the table's lines put one after the other
 
-module _ {out : List ℕ} where
-  pub lines_start : Put out 0 (first_lines 0) out 0
+module _ {page : Page} where
+  pub lines_start : Written page (first_lines 0) page
   unfolding entry_lines
-  lines_start = put_nothing out 0
+  lines_start = write_nothing page
 
-  module _ (k : ℕ) {mid : List ℕ} {m : ℕ} (p : Put out 0 (first_lines k) mid m) where
+  module _ (k : ℕ) {mid : Page} (p : Written page (first_lines k) mid) where
     -- `z` is what `nearest` gave
     module _ (h : k < estimate_count) {z : ℤ} (e : z ≡ at selection_table k) where
-      pub line-room : length mid ≡ length out → table_room ≤ length out → HasRoom mid m (entry_line z)
-      line-room l room = omega (arith, p.ends, first_short k (omega arith), short_line z (rw e (entry-small k h)))
+      pub line-room : page.at + table_room ≤ length page.out.now → RoomFor mid (entry_line z)
+      line-room room = omega (arith, p.kept, p.put.ends, first_short k (omega arith), short_line z (rw e (entry-small k h)))
 
-      pub lines_next : {after : List ℕ} {end : ℕ} → Put mid m (entry_line z) after end → Put out 0 (first_lines (k + 1)) after end
-      lines_next q = rw (add-one k, first_next k h, ← e) (put_then p q)
+      pub lines_next : {after : Page} → Written mid (entry_line z) after → Written page (first_lines (k + 1)) after
+      lines_next q = rw (add-one k, first_next k h, ← e) (write_then p q)
 
-    pub lines_all : estimate_count ≤ k → Put out 0 table_text mid m
+    pub lines_all : estimate_count ≤ k → Written page table_text mid
     lines_all h = rw (first_all k h) at p

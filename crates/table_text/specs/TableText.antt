@@ -1,13 +1,11 @@
 -- The selection table as text (document 02, 4/14), one decimal entry a line, and how a text that somebody has
 -- is held against it.
 use mathlib.Core.{Path.◌≡◌, Bool.Bool, Bool.true, Bool.false, Bool.cond, Bool.◌&&◌, List.List, List.[], List.◌∷◌, List.◌++◌, Logic.◌↔◌}
-use Rattle.std.specs.Prelude.{ℕ, suc, ◌*◌}
+use Rattle.std.specs.Prelude.{ℕ, suc, ◌*◌, Option, None, Some, Result, Ok, Err}
 use lib.{Dec.eqb, Dec.ltb, IntN.ℤ, ListN.length, ListN.drop}
-use Rattle.job.specs.Refusal.{Check, first_refusal, Decides}
+use Rattle.job.specs.{Refusal.Check, Refusal.first_refusal, Refusal.Decides, Refused.number_of, declared.refusals.Refused.Refused}
 use Rattle.selection.specs.Selection.{estimate_count, selection_table}
 use Rattle.text.specs.Text.{signed_decimal, line, with_text}
-use Rattle.table_text.specs.declared.TableWritten.{TableWritten}
-use Rattle.table_text.specs.declared.Compared.{Compared}
 
 -- ---- the text
 
@@ -43,6 +41,16 @@ table_refusal room = first_refusal (table_checks room)
 abbrev pub TableDecided : Type 0
 TableDecided = (room : ℕ) → Decides (table_checks room) (table_refusal room)
 
+-- what write_table answers in numbers: that of a refusal, 0 where there is none, and that of the bytes put
+pub record TableWritten : Type 0 where
+  pub refusal : ℕ
+  pub length : ℕ
+
+-- what a result of write_table says in these numbers
+abbrev pub table_written : Result ℕ Refused → TableWritten
+table_written (Ok n) = record { refusal = 0; length = n }
+table_written (Err e) = record { refusal = number_of e; length = 0 }
+
 -- the number of bytes, 0 when refused
 unfoldable pub table_answer : ℕ → TableWritten
 table_answer room = record { refusal = table_refusal room; length = cond (eqb (table_refusal room) 0) (length table_text) 0 }
@@ -63,6 +71,17 @@ begins_with (b ∷ s) (c ∷ text) = eqb b c && begins_with s text
 unfoldable pub agreeing : (entries : List ℤ) (s : List ℕ) → ℕ
 agreeing [] s = 0
 agreeing (z ∷ zs) s = cond (begins_with s (entry_line z)) (suc (agreeing zs (drop (length (entry_line z)) s))) 0
+
+-- whether a text is the table's, and how many entries agree before the first that does not
+pub record Compared : Type 0 where
+  pub same : Bool
+  pub agreeing : ℕ
+
+-- what a result of compare_table says of them: the place of the first entry that does not agree, or the number
+-- of the entries where all do and more follows; none where the text is the table's
+abbrev pub table_compared : Option ℕ → Compared
+table_compared None = record { same = true; agreeing = estimate_count }
+table_compared (Some k) = record { same = false; agreeing = k }
 
 -- all entries agree, and nothing follows
 unfoldable pub compared : List ℕ → Compared

@@ -2,30 +2,17 @@
 // `compare_table` holds a text that somebody has against the table that the library chooses by.
 #![tactic(auto)]
 
-ghost use Rattle.std.specs.Prelude.{◌≡◌, cond, ◌+◌, ◌≤◌, nat_abs, length, drop};
+ghost use Rattle.std.specs.Prelude.{◌≡◌, cond, ◌+◌, ◌≤◌, nat_abs, length, drop, Some, None};
 ghost use Rattle.selection.specs.Selection.{InTable, nearest};
-ghost use Rattle.text.specs.Text.{HasRoom, Put};
-ghost use Rattle.table_text.specs.TableText.{entry_line, table_text, table_room, table_answer, table_buffer, begins_with, compared};
+ghost use Rattle.text.specs.Text.{RoomFor, Written};
+ghost use Rattle.table_text.specs.TableText.{entry_line, table_text, table_room, table_written, table_answer, table_buffer, begins_with, table_compared, compared};
 
+use job::Refused;
 use selection::ESTIMATES;
+use text::Page;
 
 // How many bytes write_table is lent at least: 1,024 lines of at most 4.
 const TABLE_ROOM: usize = 4096;
-
-// What write_table answers: a refusal number, 0 where there is none, and the number of bytes put.
-#[derive(Clone, Copy)]
-pub struct TableWritten {
-    pub refusal: usize,
-    pub length: usize,
-}
-
-// What compare_table answers: whether the text is the table's, and how many entries agree before the first
-// that does not.
-#[derive(Clone, Copy)]
-pub struct Compared {
-    pub same: bool,
-    pub agreeing: usize,
-}
 
 // The whole number nearest to e / 32, a tie away from zero: half a unit with e's sign is added, and a
 // division with a sign cuts toward zero, so that magnitudes are rounded, those of negative numbers too.
@@ -38,80 +25,73 @@ fn nearest(e: i64) -> i64
 }
 
 // The line of an entry.
-fn put_entry(out: &mut [u8], at: usize, z: i64) -> usize
-    requires { HasRoom out.old at (entry_line z) }
-    ensures { Put out.old at (entry_line z) out.new result }
+fn put_entry(page: &mut Page, z: i64)
+    requires { RoomFor page.old (entry_line z) }
+    ensures { Written page.old (entry_line z) page.new }
 {
-    let end = text::put_signed(out, at, z);
-    text::put_byte(out, end, b'\n')
+    page.signed(z);
+    page.byte(b'\n');
 }
 
 // The lines of all entries, each by the rule, from the least estimate on.
-fn put_table(out: &mut [u8]) -> usize
-    requires { table_room ≤ length out.old }
-    ensures { Put out.old 0 table_text out.new result }
+fn put_table(page: &mut Page)
+    requires { page.old.at + table_room ≤ length page.old.out.now }
+    ensures { Written page.old table_text page.new }
 {
-    let mut end: usize = 0;
     for k in 0..ESTIMATES {
         let z = nearest((k as i64) - 512);
-        end = put_entry(out, end, z);
+        put_entry(page, z);
     }
-    end
 }
 
-// Writes the table: its text stands at the front of the buffer, and the bytes past it stay. A buffer of fewer
-// than 4,096 bytes is refused by 23, and all its bytes stay.
-pub fn write_table(out: &mut [u8]) -> TableWritten
-    ensures answer { result ≡ table_answer (length out.old) }
+// Writes the table and gives the number of bytes: its text stands at the front of the buffer, and the bytes
+// past it stay. A buffer of fewer than 4,096 bytes is refused by 23, and all its bytes stay.
+pub fn write_table(out: &mut [u8]) -> Result<usize, Refused>
+    ensures answer { table_written result ≡ table_answer (length out.old) }
     ensures buffer { out.new ≡ table_buffer out.old }
 {
     if out.len() < TABLE_ROOM {
-        return TableWritten {
-            refusal: 23,
-            length: 0,
-        };
+        return Err(Refused::TooLittleRoom);
     }
-    TableWritten {
-        refusal: 0,
-        length: put_table(out),
-    }
+    let mut page = Page { out, at: 0 };
+    put_table(&mut page);
+    Ok(page.at)
 }
 
-// The place after the line of z, where it stands in s from a place on; 0 where it does not.
-fn after_line(s: &[u8], from: usize, z: i64) -> usize
+// The place after the line of z, where it stands in s from a place on.
+fn after_line(s: &[u8], from: usize, z: i64) -> Option<usize>
     requires { (from ≤ length s.now) × (nat_abs z ≤ 16) }
-    ensures { result ≡ cond (begins_with (drop from s.now) (entry_line z)) (from + length (entry_line z)) 0 }
+    ensures { result ≡ cond (begins_with (drop from s.now) (entry_line z)) (Some (from + length (entry_line z))) None }
 {
     let mut line = [0u8; 32];
-    let n = put_entry(&mut line, 0, z);
+    let mut page = Page {
+        out: &mut line,
+        at: 0,
+    };
+    put_entry(&mut page, z);
+    let n = page.at;
     if s.len() - from < n {
-        return 0;
+        return None;
     }
     if check::same(&s[from..from + n], &line[0..n]) {
-        from + n
+        Some(from + n)
     } else {
-        0
+        None
     }
 }
 
-// Holds the text s against the library's table, entry by entry.
-pub fn compare_table(s: &[u8]) -> Compared
-    ensures { result ≡ compared s.now }
+// Holds the text s against the library's table, entry by entry, and gives the place of the first entry whose
+// line differs, or 1,024 where more follows the table's lines; nothing where the text is the table's.
+pub fn compare_table(s: &[u8]) -> Option<usize>
+    ensures { table_compared result ≡ compared s.now }
 {
     let t = selection::table();
     let mut at: usize = 0;
     for k in 0..ESTIMATES {
-        let end = after_line(s, at, integers::widen(t[k]));
-        if end == 0 {
-            return Compared {
-                same: false,
-                agreeing: k,
-            };
-        }
+        let Some(end) = after_line(s, at, i64::from(t[k])) else {
+            return Some(k);
+        };
         at = end;
     }
-    Compared {
-        same: s.len() == at,
-        agreeing: ESTIMATES,
-    }
+    if s.len() == at { None } else { Some(ESTIMATES) }
 }

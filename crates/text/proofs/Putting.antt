@@ -17,7 +17,8 @@ use lib.Seq.{append_snoc, set_split, length-take-le, drop-append-add, drop-drop,
 use lib.Signed.{lt_z}
 use Rattle.integers.proofs.Maximum.{le_or_lt}
 use Rattle.integers.proofs.Order.{zarith}
-use Rattle.text.specs.Text.{digit_char, decimal_within, decimal, signed_decimal, with_text, HasRoom, Put}
+use Rattle.text.specs.declared.Page.{Page}
+use Rattle.text.specs.Text.{digit_char, decimal_within, decimal, signed_decimal, with_text, HasRoom, Put, RoomFor, Written}
 
 -- ---- text in a buffer
 
@@ -69,6 +70,15 @@ put_then {out} {mid} {after} {at} {m} {end} {a} {b} p q =
       ends = omega (arith, p.ends, q.ends, length-append a b);
     }
 
+-- ---- on a page
+
+module _ (page : Page) where
+  pub write_nothing : Written page [] page
+  write_nothing = record { same = refl; kept = refl; put = put_nothing page.out.now page.at }
+
+pub write_then : {page mid after : Page} {a b : List ℕ} → Written page a mid → Written mid b after → Written page (a ++ b) after
+write_then p q = record { same = q.same ∙ p.same; kept = q.kept ∙ p.kept; put = put_then p.put q.put }
+
 -- a text at the front lies within the buffer
 pub text_inside : (out text : List ℕ) {after : List ℕ} {r : ℕ} → r ≡ length text → after ≡ with_text out 0 text → r ≤ length after
 unfolding with_text
@@ -115,29 +125,28 @@ length_signed (negsuc n) = omega (arith, length-decimal (suc n))
 
 -- ---- a number put digit by digit
 
-module _ (out : List ℕ) (at n : ℕ) where
+module _ (page : Page) (n : ℕ) where
   -- of one digit
-  pub small-room : n < 10 → HasRoom out at (decimal n) → at + 1 ≤ length out
+  pub small-room : n < 10 → RoomFor page (decimal n) → page.at + 1 ≤ length page.out.now
   small-room h room = let e : length (decimal n) ≡ 1 = rw (decimal-small n h) in omega arith
 
-  pub put_small : {after : List ℕ} {x end : ℕ} → n < 10 → x ≡ digit_char n → Put out at (x ∷ []) after end → Put out at (decimal n) after end
-  put_small h e p = rw (decimal-small n h, ← e) p
+  pub write_small : {after : Page} {x : ℕ} → n < 10 → x ≡ digit_char n → Written page (x ∷ []) after → Written page (decimal n) after
+  write_small h e p = rw (decimal-small n h, ← e) p
 
   -- of more: the digits but the last, and then the last
   module _ (h : 10 ≤ n) (b : n < 2 ^ 64) where
     one_more : length (decimal n) ≡ length (decimal (n / 10)) + 1
     one_more = rw (decimal-large n h b) (length-append (decimal (n / 10)) (digit_char (n % 10) ∷ []))
 
-    pub front_room : HasRoom out at (decimal n) → HasRoom out at (decimal (n / 10))
+    pub front_room : RoomFor page (decimal n) → RoomFor page (decimal (n / 10))
     front_room room = omega (arith, one_more)
 
-    pub last-room : {mid : List ℕ} {m : ℕ} → HasRoom out at (decimal n) → length mid ≡ length out
-        → Put out at (decimal (n / 10)) mid m → m + 1 ≤ length mid
-    last-room room e p = omega (arith, one_more, p.ends)
+    pub last-room : {mid : Page} → RoomFor page (decimal n) → Written page (decimal (n / 10)) mid → mid.at + 1 ≤ length mid.out.now
+    last-room room p = omega (arith, one_more, p.kept, p.put.ends)
 
-    pub put-large : {mid after : List ℕ} {m x end : ℕ} → x ≡ digit_char (n % 10)
-        → Put out at (decimal (n / 10)) mid m → Put mid m (x ∷ []) after end → Put out at (decimal n) after end
-    put-large e p q = rw (decimal-large n h b, ← e) (put_then p q)
+    pub write-large : {mid after : Page} {x : ℕ} → x ≡ digit_char (n % 10)
+        → Written page (decimal (n / 10)) mid → Written mid (x ∷ []) after → Written page (decimal n) after
+    write-large e p q = rw (decimal-large n h b, ← e) (write_then p q)
 
 -- ---- a number with a sign: n is its absolute value
 
@@ -151,24 +160,23 @@ unfolding signed_decimal
 signed_nonnegative (pos n) h = refl
 signed_nonnegative (negsuc n) h = absurd (omega (zarith, h))
 
-module _ (out : List ℕ) (at : ℕ) (z : ℤ) (n : ℕ) (e : n ≡ nat_abs z) where
+module _ (page : Page) (z : ℤ) (n : ℕ) (e : n ≡ nat_abs z) where
   module _ (h : lt_z z (pos 0) ≡ true) where
-    pub sign_room : HasRoom out at (signed_decimal z) → at + 1 ≤ length out
+    pub sign_room : RoomFor page (signed_decimal z) → page.at + 1 ≤ length page.out.now
     sign_room room = omega (arith, ap length (signed_negative z h))
 
-    pub past_sign_room : {mid : List ℕ} {m : ℕ} → HasRoom out at (signed_decimal z) → length mid ≡ length out
-        → Put out at (45 ∷ []) mid m → HasRoom mid m (decimal n)
-    past_sign_room room k p = rw e (omega (arith, ap length (signed_negative z h), p.ends))
+    pub past_sign_room : {mid : Page} → RoomFor page (signed_decimal z) → Written page (45 ∷ []) mid → RoomFor mid (decimal n)
+    past_sign_room room p = rw e (omega (arith, ap length (signed_negative z h), p.kept, p.put.ends))
 
-    pub put_negative : {mid after : List ℕ} {m end : ℕ} → Put out at (45 ∷ []) mid m → Put mid m (decimal n) after end → Put out at (signed_decimal z) after end
-    put_negative p q = rw (signed_negative z h, ← e) (put_then p q)
+    pub write_negative : {mid after : Page} → Written page (45 ∷ []) mid → Written mid (decimal n) after → Written page (signed_decimal z) after
+    write_negative p q = rw (signed_negative z h, ← e) (write_then p q)
 
   module _ (h : lt_z z (pos 0) ≡ false) where
-    pub nonnegative_room : HasRoom out at (signed_decimal z) → HasRoom out at (decimal n)
+    pub nonnegative_room : RoomFor page (signed_decimal z) → RoomFor page (decimal n)
     nonnegative_room room = rw (e, ← signed_nonnegative z h) room
 
-    pub put_nonnegative : {after : List ℕ} {end : ℕ} → Put out at (decimal n) after end → Put out at (signed_decimal z) after end
-    put_nonnegative p = rw (signed_nonnegative z h, ← e) p
+    pub write_nonnegative : {after : Page} → Written page (decimal n) after → Written page (signed_decimal z) after
+    write_nonnegative p = rw (signed_nonnegative z h, ← e) p
 
 -- ---- the bytes of s, in the place of as many bytes of the buffer
 
@@ -177,3 +185,19 @@ unfolding with_text
 put_part out at s part p =
     let e : at + length s - at ≡ length s = omega arith in
     record { holds = rw (e, p, drop-drop (length s) at out) (sym (append_assoc (take at out) s (drop (at + length s) out))); ends = refl }
+
+-- the buffer keeps its length where there is room for what is put
+pub put_kept : {out after text : List ℕ} {at end : ℕ} → HasRoom out at text → Put out at text after end → length after ≡ length out
+unfolding with_text
+put_kept {out} {after} {text} {at} room p =
+    let front : length (take at out ++ text) ≡ at + length text = simp (length-append, length-take-le at out (omega arith)) in
+    omega (
+      arith,
+      ap length p.holds,
+      front,
+      ap length (append_assoc (take at out) text (drop (at + length text) out)),
+      length-append (take at out ++ text) (drop (at + length text) out),
+      length-append (take (at + length text) out) (drop (at + length text) out),
+      length-take-le (at + length text) out room,
+      ap length (take-append-drop (at + length text) out),
+    )

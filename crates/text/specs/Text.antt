@@ -2,6 +2,7 @@
 -- are those of ASCII. Cited by the contracts of this crate and by the printout of a frame.
 use mathlib.Core.{Path.◌≡◌, Bool.cond, List.List, List.[], List.◌∷◌, List.◌++◌}
 use Rattle.std.specs.Prelude.{ℕ, zero, suc, ◌+◌, ◌/◌, ◌%◌, ◌≤◌}
+use Rattle.text.specs.declared.Page.{Page}
 use lib.{Dec.ltb, IntN.ℤ, IntN.pos, IntN.negsuc, ListN.length, ListN.take, ListN.drop}
 
 -- the character of a digit from 0 to 9: that of 0 is 48
@@ -44,3 +45,16 @@ HasRoom out at text = at + length text ≤ length out
 pub record Put (out : List ℕ) (at : ℕ) (text after : List ℕ) (end : ℕ) : Type 0 where
   pub holds : after ≡ with_text out at text
   pub ends : end ≡ at + length text
+
+-- ---- a page: a lent buffer and the place in it that comes next
+
+-- the page has room for the text
+abbrev pub RoomFor : Page → List ℕ → Type 0
+RoomFor page text = HasRoom page.out.now page.at text
+
+-- what writing a text on a page comes to: the text is put at its place, and the place past it comes next. It
+-- is the same buffer, and keeps its length
+pub record Written (page : Page) (text : List ℕ) (after : Page) : Type 0 where
+  pub same : after.out.ghost_name ≡ page.out.ghost_name
+  pub kept : length after.out.now ≡ length page.out.now
+  pub put : Put page.out.now page.at text after.out.now after.at

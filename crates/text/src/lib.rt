@@ -1,17 +1,14 @@
-// Text in a lent buffer: each function puts its text at a place and answers the place after it; the bytes
-// before and past the text stay.
+// Text on a page, which is a lent buffer and the place in it that comes next: each method puts its text at
+// that place and moves it past the text; the bytes before and past the text stay.
 #![tactic(auto)]
 
 ghost use Rattle.std.specs.Prelude.{◌≡◌, [], ◌∷◌, ◌+◌, ◌<◌};
-ghost use Rattle.text.specs.Text.{decimal, signed_decimal, HasRoom, Put};
+ghost use Rattle.text.specs.Text.{decimal, signed_decimal, RoomFor, Written};
 
-// One byte.
-pub fn put_byte(out: &mut [u8], at: usize, b: u8) -> usize
-    requires { HasRoom out.old at (b ∷ []) }
-    ensures { Put out.old at (b ∷ []) out.new result }
-{
-    out[at] = b;
-    at + 1
+#[derive(Drop)]
+pub struct Page<'a> {
+    pub out: &'a mut [u8],
+    pub at: usize,
 }
 
 fn digit_char(d: u64) -> u8
@@ -21,55 +18,68 @@ fn digit_char(d: u64) -> u8
     (48 + d) as u8
 }
 
-// A number in decimal.
-pub fn put_decimal(out: &mut [u8], at: usize, n: u64) -> usize
-    requires { HasRoom out.old at (decimal n) }
-    ensures { Put out.old at (decimal n) out.new result }
-{
-    if n < 10 {
-        return put_byte(out, at, digit_char(n));
+impl<'a> Page<'a> {
+    // One byte.
+    pub fn byte(&mut self, b: u8)
+        requires { RoomFor self.old (b ∷ []) }
+        ensures { Written self.old (b ∷ []) self.new }
+    {
+        self.out[self.at] = b;
+        self.at += 1;
     }
-    let last = put_decimal(out, at, n / 10);
-    put_byte(out, last, digit_char(n % 10))
-}
 
-// A number with a sign in decimal.
-pub fn put_signed(out: &mut [u8], at: usize, z: i64) -> usize
-    requires { HasRoom out.old at (signed_decimal z) }
-    ensures { Put out.old at (signed_decimal z) out.new result }
-{
-    let n = integers::magnitude(z);
-    if z < 0 {
-        let from = put_byte(out, at, b'-');
-        return put_decimal(out, from, n);
+    // A number in decimal.
+    pub fn decimal(&mut self, n: u64)
+        requires { RoomFor self.old (decimal n) }
+        ensures { Written self.old (decimal n) self.new }
+    {
+        if n < 10 {
+            self.byte(digit_char(n));
+            return;
+        }
+        self.decimal(n / 10);
+        self.byte(digit_char(n % 10));
     }
-    put_decimal(out, at, n)
-}
 
-// A space and a number with a sign in decimal: an item of a line after the first.
-pub fn put_item(out: &mut [u8], at: usize, z: i64) -> usize
-    requires { HasRoom out.old at (32 ∷ signed_decimal z) }
-    ensures { Put out.old at (32 ∷ signed_decimal z) out.new result }
-{
-    let from = put_byte(out, at, b' ');
-    put_signed(out, from, z)
-}
+    // A number with a sign in decimal.
+    pub fn signed(&mut self, z: i64)
+        requires { RoomFor self.old (signed_decimal z) }
+        ensures { Written self.old (signed_decimal z) self.new }
+    {
+        let n = z.unsigned_abs();
+        if z < 0 {
+            self.byte(b'-');
+            self.decimal(n);
+            return;
+        }
+        self.decimal(n);
+    }
 
-// A space and a natural number in decimal.
-pub fn put_natural_item(out: &mut [u8], at: usize, n: u64) -> usize
-    requires { HasRoom out.old at (32 ∷ decimal n) }
-    ensures { Put out.old at (32 ∷ decimal n) out.new result }
-{
-    let from = put_byte(out, at, b' ');
-    put_decimal(out, from, n)
-}
+    // A space and a number with a sign in decimal: an item of a line after the first.
+    pub fn item(&mut self, z: i64)
+        requires { RoomFor self.old (32 ∷ signed_decimal z) }
+        ensures { Written self.old (32 ∷ signed_decimal z) self.new }
+    {
+        self.byte(b' ');
+        self.signed(z);
+    }
 
-// The bytes of s.
-pub fn put_bytes(out: &mut [u8], at: usize, s: &[u8]) -> usize
-    requires { HasRoom out.old at s.now }
-    ensures { Put out.old at s.now out.new result }
-{
-    let end = at + s.len();
-    out[at..end].copy_from_slice(s);
-    end
+    // A space and a natural number in decimal.
+    pub fn natural_item(&mut self, n: u64)
+        requires { RoomFor self.old (32 ∷ decimal n) }
+        ensures { Written self.old (32 ∷ decimal n) self.new }
+    {
+        self.byte(b' ');
+        self.decimal(n);
+    }
+
+    // The bytes of s.
+    pub fn bytes(&mut self, s: &[u8])
+        requires { RoomFor self.old s.now }
+        ensures { Written self.old s.now self.new }
+    {
+        let end = self.at + s.len();
+        self.out[self.at..end].copy_from_slice(s);
+        self.at = end;
+    }
 }

@@ -22,10 +22,8 @@ use Rattle.state.specs.Inner.{state_of}
 use Rattle.state.specs.declared.State.{State}
 use Rattle.state.proofs.PastOrder.{overwritten, overwritten_below}
 use Rattle.trace.specs.PastOrder.{RecordZeros, ReadZeros, RecordBelow, SameMade, WriteBelow}
-use Rattle.trace.specs.Trace.{digit_list, digit_array, trace_reader_answer, state_record, record_answer, trace_writer_checks, trace_writer_answer, trace_writer_buffer, trace_checks, trace_record}
+use Rattle.trace.specs.Trace.{TraceWritten, Recorded, digit_list, digit_array, trace_reader_answer, state_record, record_answer, trace_writer_checks, trace_writer_answer, trace_writer_buffer, trace_checks, trace_record}
 use Rattle.trace.specs.declared.Record.{Record}
-use Rattle.trace.specs.declared.Recorded.{Recorded}
-use Rattle.trace.specs.declared.TraceWritten.{TraceWritten}
 use Rattle.trace.proofs.PastOrder.{record_zeros, read_zeros, record_below, write_below}
 
 -- ---- case A with the x of 3 that document 02 gives it, as A's own frame is refused by 8: the record and the

@@ -18,9 +18,8 @@ use Rattle.job.proofs.Refusal.{accepted-before}
 use Rattle.job.specs.declared.Header.{Header}
 use Rattle.header.specs.Header.{header_of}
 use Rattle.trace.specs.Inner.{part_bits, part_steps, part_digits, part_wrong_length, part_fill_bit_set, rest_checks, rest_answer, part_answer}
-use Rattle.trace.specs.Trace.{record_of, digit_array, too_many_steps, trace_wrong_length, trace_fill_bit_set, trace_bits, trace_length, steps_of, trace_digits, trace_checks, trace_record, trace_reader_answer, zero_record}
+use Rattle.trace.specs.Trace.{Recorded, record_of, digit_array, too_many_steps, trace_wrong_length, trace_fill_bit_set, trace_bits, trace_length, steps_of, trace_digits, trace_checks, trace_record, trace_reader_answer, zero_record}
 use Rattle.trace.specs.declared.Record.{Record}
-use Rattle.trace.specs.declared.Recorded.{Recorded}
 
 -- a wrong size: nothing else counts
 wrong_size : (h : Header) (k : ℕ) (a b : Bool) (ds es : List ℤ) → rest_answer h k true a ds ≡ rest_answer h k true b es

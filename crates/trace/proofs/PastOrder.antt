@@ -18,12 +18,11 @@ use Rattle.state.specs.State.{SameBelow, digit_beyond}
 use Rattle.state.proofs.PastOrder.{checked_alike, beyond_ext}
 use Rattle.state.proofs.Lists.{list_from_alike}
 use Rattle.job.specs.Refusal.{first_refusal}
-use Rattle.trace.specs.Trace.{digit_list, zero_record, trace_record, trace_reader_answer, trace_refusal, record_refusal, state_record, record_answer, trace_writer_checks, trace_writer_refusal, record_fields, trace_writer_answer, trace_writer_buffer}
+use Rattle.trace.specs.Trace.{Recorded, digit_list, zero_record, trace_record, trace_reader_answer, trace_refusal, record_refusal, state_record, record_answer, trace_writer_checks, trace_writer_refusal, record_fields, trace_writer_answer, trace_writer_buffer}
 use Rattle.trace.proofs.Digits.{entry-none}
 use Rattle.trace.specs.PastOrder.{RecordZeroPast, RecordZeros, ReadZeros, RecordBelow, SameMade, WriteBelow}
 use Rattle.trace.proofs.Valid.{recorded_valid, record_steps_most}
 use Rattle.trace.specs.declared.Record.{Record}
-use Rattle.trace.specs.declared.Recorded.{Recorded}
 
 -- ---- zeros
 

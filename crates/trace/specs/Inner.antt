@@ -8,7 +8,7 @@ use Rattle.integers.specs.Flat.{at, entry, list_from}
 use Rattle.bitfields.specs.{Layout.Field, Layout.bits, Layout.Fit, Layout.each, Layout.Bytes, Layout.field, Layout.fill, Layout.bytes_for, Layout.written, Twos.encode, Twos.decode, Twos.Fits, Twos.numbers}
 use Rattle.job.specs.{Refusal.Check, Refusal.first_refusal, declared.Header.Header}
 use Rattle.state.specs.State.{digit_beyond}
-use Rattle.trace.specs.{Trace.digit_array, Trace.record_of, Trace.zero_record, Trace.too_many_steps, declared.Recorded.Recorded}
+use Rattle.trace.specs.{Trace.digit_array, Trace.record_of, Trace.zero_record, Trace.too_many_steps, Trace.Recorded}
 
 -- ---- digits in an array
 

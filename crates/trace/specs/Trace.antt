@@ -2,14 +2,14 @@
 -- each refusal, and what the trace reader, the record of a state and the trace writer answer. The contracts
 -- of these three calls are equalities with the definitions here; `Theorems` says what follows.
 use mathlib.Core.{Path.◌≡◌, Bool.Bool, Bool.not, Bool.cond, Bool.◌&&◌, Bool.◌||◌, List.List, List.[], List.◌∷◌, List.◌++◌, List.map}
-use Rattle.std.specs.Prelude.{ℕ, ◌+◌, ◌*◌, ◌/◌, ◌%◌, ◌<◌, ◌≤◌}
+use Rattle.std.specs.Prelude.{ℕ, ◌+◌, ◌*◌, ◌/◌, ◌%◌, ◌<◌, ◌≤◌, Result, Ok, Err}
 use lib.{Dec.ltb, Dec.eqb, IntN.ℤ, IntN.pos, IntN.nat_abs, ListN.length, ListN.replicate}
 use Rattle.integers.specs.Flat.{at, entry, list_from}
 use Rattle.bitfields.specs.{Layout.Field, Layout.each, Layout.field, Layout.fill, Layout.bytes_for, Layout.written, Twos.encode, Twos.numbers}
-use Rattle.job.specs.{Header.trace_read_checks, Header.trace_header_checks, Header.zero_header, Header.Limits, Header.digit_bits, Header.past_60_bits, Refusal.Check, Refusal.first_refusal, Rules.trace_steps, declared.Header.Header}
+use Rattle.job.specs.{Header.trace_read_checks, Header.trace_header_checks, Header.zero_header, Header.Limits, Header.digit_bits, Header.past_60_bits, Refusal.Check, Refusal.first_refusal, Refused.number_of, Rules.trace_steps, declared.Header.Header, declared.refusals.Refused.Refused}
 use Rattle.header.specs.Header.{header_fields, header_of}
 use Rattle.state.specs.{State.state_checks, State.digit_places, State.digit_beyond, declared.State.State}
-use Rattle.trace.specs.{declared.Record.Record, declared.Recorded.Recorded, declared.TraceWritten.TraceWritten}
+use Rattle.trace.specs.declared.Record.{Record}
 
 -- ---- the layout
 
@@ -52,6 +52,17 @@ zero_record = record_of zero_header 0 (replicate digit_places (pos 0))
 -- a record with 0 for the digits past step k and past row n
 abbrev pub trimmed : Record → Record
 trimmed t = record_of t.header t.k (digit_array t.header.n t.k (digit_list t.header.n t.k t.digits))
+
+-- what the trace reader and the record of a state answer: the number of a refusal, 0 where there is none, and a
+-- record, which is one of zeros with a refusal
+pub record Recorded : Type 0 where
+  pub refusal : ℕ
+  pub trace : Record
+
+-- what a result of one of the two says in these numbers
+abbrev pub recorded : Result Record Refused → Recorded
+recorded (Ok t) = record { refusal = 0; trace = t }
+recorded (Err e) = record { refusal = number_of e; trace = zero_record }
 
 abbrev pub record_fields : Record → List Field
 record_fields t = trace_fields t.header t.k t.digits
@@ -132,6 +143,16 @@ trace_writer_checks t room =
 
 abbrev pub trace_writer_refusal : Record → ℕ → ℕ
 trace_writer_refusal t room = first_refusal (trace_writer_checks t room)
+
+-- what the trace writer answers in numbers: that of a refusal, 0 where there is none, and that of the bytes
+pub record TraceWritten : Type 0 where
+  pub refusal : ℕ
+  pub length : ℕ
+
+-- what a result of the trace writer says in these numbers
+abbrev pub trace_written : Result ℕ Refused → TraceWritten
+trace_written (Ok n) = record { refusal = 0; length = n }
+trace_written (Err e) = record { refusal = number_of e; length = 0 }
 
 -- the number of bytes, 0 when refused
 unfoldable pub trace_writer_answer : Record → ℕ → TraceWritten

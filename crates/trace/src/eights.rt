@@ -20,7 +20,7 @@ fn digit_of_byte(u: u64) -> i8
 fn digit_bits(z: i8) -> u64
     ensures { (result < 32) × (Fits 5 z → result ≡ encode 5 z) }
 {
-    integers::to_unsigned(integers::widen(z) + 128) % 32
+    integers::to_unsigned(i64::from(z) + 128) % 32
 }
 
 // The eight fields of a number as eight bytes, all at once: its halves are set apart, then its quarters, then

@@ -4,8 +4,8 @@
 // and in a step row by row, and zeros to the byte. It has 4 to 604 bytes, so 604 bytes of room are enough for
 // every trace.
 //
-// Each of the three calls takes anything: any bytes, any state, any record. Refused, it gives a record of
-// zeros, or writes 0 bytes and leaves every lent byte as it was. Its contract is an equality with a
+// Each of the three calls takes anything: any bytes, any state, any record. Refused, it gives no record, or
+// writes nothing and leaves every lent byte as it was. Its contract is an equality with a
 // definition of specs/Trace.antt, which also has the refusals of each call in their order;
 // specs/Theorems.antt has what follows.
 #![tactic(auto)]
@@ -42,21 +42,6 @@ pub struct Record {
     pub header: Header,
     pub k: usize,
     pub digits: [i8; DIGITS],
-}
-
-// What the trace reader and the record of a state answer: a refusal number, 0 where there is none, and a
-// record, which is one of zeros with a refusal.
-#[derive(Clone, Copy)]
-pub struct Recorded {
-    pub refusal: usize,
-    pub trace: Record,
-}
-
-// What the trace writer answers: a refusal number, 0 where there is none, and the number of bytes.
-#[derive(Clone, Copy)]
-pub struct TraceWritten {
-    pub refusal: usize,
-    pub length: usize,
 }
 
 // 10, of the reader and the writer: more steps than a trace of the job may hold, or than 60 bits hold.

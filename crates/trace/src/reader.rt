@@ -5,15 +5,15 @@ ghost use Rattle.std.proofs.lemmas.List.Edits.{sets};
 ghost use Rattle.bitfields.specs.Twos.{numbers};
 ghost use Rattle.job.specs.Header.{Limits};
 ghost use Rattle.job.specs.Refusal.{first_refusal};
+ghost use Rattle.job.specs.Refused.{refusal_of};
 ghost use Rattle.state.specs.State.{all_steps, digit_places};
 ghost use Rattle.trace.specs.Inner.{ZerosAt, part_wrong_length, part_fill_bit_set, size_checks, part_answer};
-ghost use Rattle.trace.specs.Trace.{digit_array, trace_reader_answer};
+ghost use Rattle.trace.specs.Trace.{digit_array, recorded, trace_reader_answer};
 
 use crate::eights::{read_eight, store_eight};
-use crate::recorder::no_record;
-use crate::{DIGIT_BITS, Record, Recorded, STEPS_BITS, too_many_steps};
+use crate::{DIGIT_BITS, Record, STEPS_BITS, too_many_steps};
 use header::read_header;
-use job::Header;
+use job::{Header, Refused};
 use state::DIGITS;
 
 // Reads the n digits of one step from the bit p on, and stores them from the place `at` on, where zeros
@@ -45,61 +45,52 @@ fn read_digits(b: &[u8], n: usize, k: usize) -> [i8; DIGITS]
 }
 
 // Refusals 10, 6 and 7, of the part b of a trace after its third byte.
-fn size_refusal(b: &[u8], h: Header, k: usize) -> usize
+fn check_size(b: &[u8], h: Header, k: usize) -> Result<(), Refused>
     requires { Limits h × (k < 64) }
-    ensures { result ≡ first_refusal (size_checks h k (part_wrong_length h k b.now) (part_fill_bit_set h k b.now)) }
+    ensures { refusal_of result ≡ first_refusal (size_checks h k (part_wrong_length h k b.now) (part_fill_bit_set h k b.now)) }
 {
     let many = too_many_steps(h, k);
     let bits = STEPS_BITS + DIGIT_BITS * (h.n * k);
     let size = (bits + 7) / 8;
     if many {
-        return 10; // more steps than a trace of the job, or 60 bits, may hold
+        return Err(Refused::TooManySteps); // more than a trace of the job, or 60 bits, may hold
     }
     if b.len() != size {
-        return 6; // not as long as the fields demand
+        return Err(Refused::WrongLength); // not as long as the fields demand
     }
     if !bitfields::fill_is_zero(b, bits) {
-        return 7; // a filling bit is 1
+        return Err(Refused::FillBitSet);
     }
-    0
+    Ok(())
 }
 
 // Reads the part b of a trace after its third byte: the steps made, and then the digits. Refusals 10, 6, 7
 // and 11.
-fn read_part(b: &[u8], h: Header) -> Recorded
+fn read_part(b: &[u8], h: Header) -> Result<Record, Refused>
     requires { (1 ≤ length b.now) × Limits h }
-    ensures { result ≡ part_answer h b.now }
+    ensures { recorded result ≡ part_answer h b.now }
 {
     let k = bitfields::read_field(b, 0, STEPS_BITS) as usize;
-    let c = size_refusal(b, h, k);
-    if 0 < c {
-        return no_record(c);
-    }
+    check_size(b, h, k)?;
     let digits = read_digits(b, h.n, k);
     if state::beyond(&digits, h.n, h.p, 0, k) {
-        return no_record(11);
+        return Err(Refused::DigitBeyond);
     }
-    Recorded {
-        refusal: 0,
-        trace: Record {
-            header: h,
-            k,
-            digits,
-        },
-    }
+    Ok(Record {
+        header: h,
+        k,
+        digits,
+    })
 }
 
 // Reads a trace: the record that its bytes spell.
-pub fn read_trace(s: &[u8]) -> Recorded
-    ensures { result ≡ trace_reader_answer s.now }
+pub fn read_trace(s: &[u8]) -> Result<Record, Refused>
+    ensures { recorded result ≡ trace_reader_answer s.now }
 {
     if s.len() < 4 {
-        return no_record(1);
+        return Err(Refused::TooShort);
     }
     let h = read_header(s);
-    let c = job::trace_read_refusal(h);
-    if 0 < c {
-        return no_record(c);
-    }
+    job::check_trace_read(h)?;
     read_part(&s[3..], h)
 }

@@ -2,25 +2,12 @@
 ghost use Rattle.std.specs.Prelude.{◌≡◌, ◌+◌, ◌*◌, ◌<◌, ◌≤◌};
 ghost use Rattle.std.proofs.lemmas.List.Edits.{sets};
 ghost use Rattle.state.specs.State.{all_steps, digit_places};
-ghost use Rattle.trace.specs.Inner.{digits_from, no_record};
-ghost use Rattle.trace.specs.Trace.{digit_list, digit_array, record_answer};
+ghost use Rattle.trace.specs.Inner.{digits_from};
+ghost use Rattle.trace.specs.Trace.{digit_list, digit_array, recorded, record_answer};
 
-use crate::{Record, Recorded};
+use crate::Record;
+use job::Refused;
 use state::{DIGITS, State};
-
-// A refusal by c, with a record of zeros.
-pub(crate) fn no_record(c: usize) -> Recorded
-    ensures { result ≡ no_record c }
-{
-    Recorded {
-        refusal: c,
-        trace: Record {
-            header: job::no_header(),
-            k: 0,
-            digits: [0; DIGITS],
-        },
-    }
-}
 
 // Copies n digits, from the place i on, to the place `at` on.
 pub(crate) fn copy_step(from: &[i8; DIGITS], i: usize, to: &mut [i8; DIGITS], at: usize, n: usize)
@@ -43,22 +30,14 @@ fn trimmed_digits(d: &[i8; DIGITS], n: usize, k: usize) -> [i8; DIGITS]
 }
 
 // Gives the record of a state.
-pub fn record_of(s: State) -> Recorded
-    ensures { result ≡ record_answer s }
+pub fn record_of(s: State) -> Result<Record, Refused>
+    ensures { recorded result ≡ record_answer s }
 {
-    let h = s.header;
-    let k = s.k;
-    let c = state::check(s.busy, h, s.scale, k, &s.g, &s.z, &s.digits);
-    if 0 < c {
-        return no_record(c);
-    }
-    let digits = trimmed_digits(&s.digits, h.n, k);
-    Recorded {
-        refusal: 0,
-        trace: Record {
-            header: h,
-            k,
-            digits,
-        },
-    }
+    s.check()?;
+    let digits = trimmed_digits(&s.digits, s.header.n, s.k);
+    Ok(Record {
+        header: s.header,
+        k: s.k,
+        digits,
+    })
 }

@@ -3,15 +3,16 @@ ghost use Rattle.std.specs.Prelude.{◌≡◌, ◌+◌, ◌*◌, ◌%◌, ◌<�
 ghost use Rattle.bitfields.specs.Layout.{written};
 ghost use Rattle.job.specs.Header.{Limits};
 ghost use Rattle.job.specs.Refusal.{first_refusal};
+ghost use Rattle.job.specs.Refused.{refusal_of};
 ghost use Rattle.state.specs.State.{all_steps, digit_places};
 ghost use Rattle.trace.specs.Inner.{digits_from, digit_fields, DigitsFit, StepsFit, Appended};
-ghost use Rattle.trace.specs.Trace.{record_of, digit_list, trace_fields, trace_length, trace_writer_checks, trace_writer_answer, trace_writer_buffer};
+ghost use Rattle.trace.specs.Trace.{digit_list, trace_fields, trace_length, trace_writer_checks, trace_written, trace_writer_answer, trace_writer_buffer};
 
 use crate::eights::digits_number;
 use crate::recorder::copy_step;
-use crate::{DIGIT_BITS, HEAD_BITS, Record, TraceWritten, too_many_steps};
+use crate::{DIGIT_BITS, HEAD_BITS, Record, too_many_steps};
 use header::header_number;
-use job::Header;
+use job::{Header, Refused};
 use state::DIGITS;
 
 // The digits of k steps of n rows one after the other, from the first place on. Of each step all 16 rows are
@@ -88,43 +89,30 @@ fn put_trace(h: Header, k: usize, d: &[i8; DIGITS], out: &mut [u8])
     write_digits(out, d, h.n, k);
 }
 
-// The trace writer's refusals. The record is lent in parts, so that its digits are not copied.
-fn writer_refusal(h: Header, k: usize, d: &[i8; DIGITS], room: usize) -> usize
-    ensures { result ≡ first_refusal (trace_writer_checks (record_of h k d.now) room) }
-{
-    let c = job::trace_header_refusal(h);
-    if 0 < c {
-        return c;
-    }
-    if too_many_steps(h, k) {
-        return 10; // more steps than a trace of the job, or 60 bits, may hold
-    }
-    if state::beyond(d, h.n, h.p, 0, k) {
-        return 11; // a digit beyond p
-    }
-    if room < trace_length(h, k) {
-        return 23; // too little room
-    }
-    0
-}
-
-// Writes the trace of a record to the front of a buffer.
-pub fn write_trace(t: Record, out: &mut [u8]) -> TraceWritten
-    ensures answer { result ≡ trace_writer_answer t (length out.old) }
-    ensures buffer { out.new ≡ trace_writer_buffer t out.old }
+// The trace writer's refusals, of a record of any numbers and a buffer of `room` bytes.
+fn check_record(t: &Record, room: usize) -> Result<(), Refused>
+    ensures { refusal_of result ≡ first_refusal (trace_writer_checks t.now room) }
 {
     let h = t.header;
-    let k = t.k;
-    let c = writer_refusal(h, k, &t.digits, out.len());
-    if 0 < c {
-        return TraceWritten {
-            refusal: c,
-            length: 0,
-        };
+    job::check_trace_header(h)?;
+    if too_many_steps(h, t.k) {
+        return Err(Refused::TooManySteps); // more than a trace of the job, or 60 bits, may hold
     }
-    put_trace(h, k, &t.digits, out);
-    TraceWritten {
-        refusal: 0,
-        length: trace_length(h, k),
+    if state::beyond(&t.digits, h.n, h.p, 0, t.k) {
+        return Err(Refused::DigitBeyond);
     }
+    if room < trace_length(h, t.k) {
+        return Err(Refused::TooLittleRoom);
+    }
+    Ok(())
+}
+
+// Writes the trace of a record to the front of a buffer, and gives the number of its bytes.
+pub fn write_trace(t: Record, out: &mut [u8]) -> Result<usize, Refused>
+    ensures answer { trace_written result ≡ trace_writer_answer t (length out.old) }
+    ensures buffer { out.new ≡ trace_writer_buffer t out.old }
+{
+    check_record(&t, out.len())?;
+    put_trace(t.header, t.k, &t.digits, out);
+    Ok(trace_length(t.header, t.k))
 }

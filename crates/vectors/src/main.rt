@@ -11,10 +11,7 @@
 // job; a line `differs`, which the model never prints, says where that gives other bytes.
 #![tactic(auto)]
 
-use emethod::{
-    FrameRead, FrameWritten, Header, Loaded, Printed, Record, Recorded, State, SumsWritten,
-    TraceWritten,
-};
+use emethod::{Header, Record, Refused, State};
 use job::{NUMBERS, ROWS};
 use state::DIGITS;
 use std::alloc::Global;
@@ -23,9 +20,6 @@ use std::io::{BufReader, BufWriter, Read, Write};
 
 // Where the loop ends if the input does not: more vectors than there are.
 const MOST: usize = 10000;
-
-// More additions than a job can cost, whatever is taken off.
-const TOO_MANY: usize = 1000000;
 
 // The most words of the running sums: for each of 16 columns its number and 16 sums.
 const WORDS: usize = 272;
@@ -69,37 +63,16 @@ fn print_header<W: Write>(out: &mut W, h: Header, k: usize) -> io::Result<()> {
     print_newline(out)
 }
 
-// What is printed of the place i in the digits of n rows: the step's number before its first row, the digit
-// of a row below n, and the line's end after the last of the 16 rows that there is room for.
-fn print_place<W: Write>(out: &mut W, i: usize, d: i8, n: usize) -> io::Result<()> {
-    if i % ROWS == 0 {
-        print_number(out, i / ROWS + 1)?;
-    }
-    if i % ROWS < n {
-        print_signed(out, i64::from(d))?;
-    }
-    if i % ROWS == ROWS - 1 {
+// The lines of the first k steps: the step's number, from 1, and the digits of its first n rows.
+fn print_steps<W: Write>(out: &mut W, digits: &[i8; DIGITS], n: usize, k: usize) -> io::Result<()> {
+    for (j, step) in digits.chunks(ROWS).take(k).enumerate() {
+        print_number(out, j + 1)?;
+        for d in step.iter().take(n) {
+            print_signed(out, i64::from(*d))?;
+        }
         print_newline(out)?;
     }
     Ok(())
-}
-
-// The lines of the first k steps.
-fn print_steps<W: Write>(out: &mut W, digits: &[i8; DIGITS], n: usize, k: usize) -> io::Result<()> {
-    for i in 0..DIGITS {
-        if i / ROWS < k {
-            print_place(out, i, digits[i], n)?;
-        }
-    }
-    Ok(())
-}
-
-// Whether the first n bytes of the buffer are those of s, and s has no more.
-fn begins(buf: &[u8], n: usize, s: &[u8]) -> bool {
-    if buf.len() < n {
-        return false;
-    }
-    &buf[0..n] == s
 }
 
 // Prints the line that says that bytes differ, where they do.
@@ -113,20 +86,25 @@ fn print_differs<W: Write>(out: &mut W, same: bool) -> io::Result<()> {
 // Whether the trace of a record has the bytes s.
 fn writes_trace(t: Record, s: &[u8]) -> bool {
     let mut buf = [0u8; BYTES];
-    let w: TraceWritten = emethod::write_trace(t, &mut buf);
-    w.refusal == 0 && begins(&buf, w.length, s)
+    match emethod::write_trace(t, &mut buf) {
+        Ok(length) => buf.get(..length) == Some(s),
+        Err(_) => false,
+    }
+}
+
+// Prints a trace's record, and whether the record has other bytes than the trace.
+fn show_record<W: Write>(out: &mut W, t: Record, s: &[u8]) -> io::Result<()> {
+    print_header(out, t.header, t.k)?;
+    print_steps(out, &t.digits, t.header.n, t.k)?;
+    print_differs(out, writes_trace(t, s))
 }
 
 // Prints one trace.
 fn show_trace<W: Write>(out: &mut W, s: &[u8]) -> io::Result<()> {
-    let a: Recorded = emethod::read_trace(s);
-    if a.refusal != 0 {
-        return show_refused(out, a.refusal, 0);
+    match emethod::read_trace(s) {
+        Ok(t) => show_record(out, t, s),
+        Err(e) => show_refused(out, e),
     }
-    let t = a.trace;
-    print_header(out, t.header, t.k)?;
-    print_steps(out, &t.digits, t.header.n, t.k)?;
-    print_differs(out, writes_trace(t, s))
 }
 
 // Whether the frame of a header and of its numbers, which begin the list, has the bytes s.
@@ -134,58 +112,50 @@ fn writes_frame(h: Header, list: &[i64], s: &[u8]) -> bool {
     if h.n < 1 || ROWS < h.n {
         return false;
     }
-    let n = job::count(h);
-    if list.len() < n {
+    let Some(numbers) = list.get(..job::count(h)) else {
         return false;
-    }
+    };
     let mut buf = [0u8; BYTES];
-    let w: FrameWritten = emethod::write_frame(h, &list[0..n], &mut buf);
-    w.refusal == 0 && begins(&buf, w.length, s)
+    match emethod::write_frame(h, numbers, &mut buf) {
+        Ok(length) => buf.get(..length) == Some(s),
+        Err(_) => false,
+    }
 }
 
-// Whether the first n bytes are a trace that, read and written, gives these bytes again.
-fn reads_trace(buf: &[u8], n: usize) -> bool {
-    if buf.len() < n {
-        return false;
+// Whether the bytes are a trace that, read and written, gives these bytes again.
+fn reads_trace(s: &[u8]) -> bool {
+    match emethod::read_trace(s) {
+        Ok(t) => writes_trace(t, s),
+        Err(_) => false,
     }
-    let a = emethod::read_trace(&buf[0..n]);
-    let t = a.trace;
-    a.refusal == 0 && writes_trace(t, &buf[0..n])
+}
+
+// Puts the trace of a frame's job after all its steps into the buffer, and gives the number of its bytes.
+fn put_trace(s: &[u8], buf: &mut [u8]) -> Result<usize, Refused> {
+    let (t, _) = emethod::advance(emethod::load(s)?, ALL_STEPS);
+    emethod::write_trace(emethod::record_of(t)?, buf)
 }
 
 // Whether the trace of a frame's job after all its steps is read and written again as it was.
 fn records(s: &[u8]) -> bool {
-    let l = emethod::load(s);
-    let a = emethod::advance(l.state, ALL_STEPS);
-    let r = emethod::record_of(a.state);
-    let t = r.trace;
     let mut buf = [0u8; BYTES];
-    let w = emethod::write_trace(t, &mut buf);
-    r.refusal == 0 && w.refusal == 0 && reads_trace(&buf, w.length)
+    let length = put_trace(s, &mut buf).ok();
+    match length.and_then(|n| buf.get(..n)) {
+        Some(trace) => reads_trace(trace),
+        None => false,
+    }
 }
 
 // Prints one frame. The buffer has room enough.
 fn show_frame<W: Write>(alloc: Global, out: &mut W, s: &[u8]) -> io::Result<()> {
     let mut text = vec![in alloc; 0u8; TEXT]?;
-    let r: Printed = emethod::print_frame(s, &mut text);
-    if let Some(lines) = text.get(..r.length) {
+    let length = emethod::print_frame(s, &mut text).ok();
+    if let Some(lines) = length.and_then(|n| text.get(..n)) {
         out.write_all(lines)?;
     }
     let mut list = [0i64; NUMBERS];
-    let f: FrameRead = emethod::read_frame(s, &mut list);
-    if f.refusal == 0 {
-        let h = f.header;
+    if let Ok(h) = emethod::read_frame(s, &mut list) {
         print_differs(out, writes_frame(h, &list, s) && records(s))?;
-    }
-    Ok(())
-}
-
-// The first n words of the list, a space before each.
-fn print_words<W: Write>(out: &mut W, list: &[i64; WORDS], n: usize) -> io::Result<()> {
-    for i in 0..WORDS {
-        if i < n {
-            print_signed(out, list[i])?;
-        }
     }
     Ok(())
 }
@@ -193,32 +163,33 @@ fn print_words<W: Write>(out: &mut W, list: &[i64; WORDS], n: usize) -> io::Resu
 // The line of a state: the steps made, and the words that the call writes. The list has room for all.
 fn show_sums<W: Write>(out: &mut W, s: State) -> io::Result<()> {
     let mut list = [0i64; WORDS];
-    let w: SumsWritten = emethod::running_sums(s, &mut list);
+    let count = emethod::running_sums(s, &mut list);
     print_number(out, s.k)?;
-    print_words(out, &list, w.count)?;
+    for z in list.iter().take(count.unwrap_or(0)) {
+        print_signed(out, *z)?;
+    }
     print_newline(out)?;
-    print_differs(out, w.refusal == 0)
+    print_differs(out, count.is_ok())
 }
 
 // The lines of a job: after 0, 1 and 2 steps, which every job has, and after all where there are more.
 fn show_job<W: Write>(out: &mut W, s: State) -> io::Result<()> {
     show_sums(out, s)?;
-    let a = emethod::advance(s, 1);
-    show_sums(out, a.state)?;
-    let b = emethod::advance(a.state, 1);
-    show_sums(out, b.state)?;
-    let c = emethod::advance(b.state, ALL_STEPS);
-    if c.refusal == 0 {
-        show_sums(out, c.state)?;
+    let (first, _) = emethod::advance(s, 1);
+    show_sums(out, first)?;
+    let (second, _) = emethod::advance(first, 1);
+    show_sums(out, second)?;
+    if let (last, Ok(_)) = emethod::advance(second, ALL_STEPS) {
+        show_sums(out, last)?;
     }
     Ok(())
 }
 
 // The line of a frame that is not loaded, or of a trace that is not read.
-fn show_refused<W: Write>(out: &mut W, refusal: usize, row: usize) -> io::Result<()> {
+fn show_refused<W: Write>(out: &mut W, e: Refused) -> io::Result<()> {
     out.write_all(b"refused")?;
-    print_field(out, refusal)?;
-    if row != 0 {
+    print_field(out, e.number())?;
+    if let Refused::HeavyRow(row) = e {
         print_field(out, row)?;
     }
     print_newline(out)
@@ -226,11 +197,10 @@ fn show_refused<W: Write>(out: &mut W, refusal: usize, row: usize) -> io::Result
 
 // Prints the columns of one frame.
 fn show_columns<W: Write>(out: &mut W, s: &[u8]) -> io::Result<()> {
-    let l: Loaded = emethod::load(s);
-    if l.refusal == 0 {
-        return show_job(out, l.state);
+    match emethod::load(s) {
+        Ok(s) => show_job(out, s),
+        Err(e) => show_refused(out, e),
     }
-    show_refused(out, l.refusal, l.row)
 }
 
 // A number of the line, with a space before it unless it is the first, which is that of step 1.
@@ -241,39 +211,36 @@ fn print_item<W: Write>(out: &mut W, n: usize, k: usize) -> io::Result<()> {
     print_number(out, n)
 }
 
-// What is left of a count after a part of it; where the part is too large, too many to come to 0 any more.
-fn less(count: usize, part: usize) -> usize {
-    if count < part {
-        return TOO_MANY;
+// How many additions one advance of all steps counts.
+fn all_additions(s: State) -> usize {
+    match emethod::advance(s, ALL_STEPS) {
+        (_, Ok(steps)) => steps.additions,
+        (_, Err(_)) => 0,
     }
-    count - part
 }
 
-// The line of a job: the additions of each step, one advance a step. Taken off those that one advance of all
-// steps counts, they leave none.
+// The line of a job: the additions of each step, one advance a step. One advance of all steps counts as many.
 fn show_step_additions<W: Write>(out: &mut W, s: State) -> io::Result<()> {
-    let all = emethod::advance(s, ALL_STEPS);
-    let mut left = all.additions;
+    let mut sum: usize = 0;
     let mut t = s;
     for _ in 0..ALL_STEPS {
-        let a = emethod::advance(t, 1);
-        if a.refusal == 0 {
-            print_item(out, a.additions, a.state.k)?;
-        }
-        left = less(left, a.additions);
-        t = a.state;
+        let (next, Ok(steps)) = emethod::advance(t, 1) else {
+            break;
+        };
+        print_item(out, steps.additions, next.k)?;
+        sum = sum.saturating_add(steps.additions);
+        t = next;
     }
     print_newline(out)?;
-    print_differs(out, left == 0)
+    print_differs(out, sum == all_additions(s))
 }
 
 // Prints the additions of one frame.
 fn show_additions<W: Write>(out: &mut W, s: &[u8]) -> io::Result<()> {
-    let l: Loaded = emethod::load(s);
-    if l.refusal == 0 {
-        return show_step_additions(out, l.state);
+    match emethod::load(s) {
+        Ok(s) => show_step_additions(out, s),
+        Err(e) => show_refused(out, e),
     }
-    show_refused(out, l.refusal, l.row)
 }
 
 // Reads as many bytes as asked for, or as there are.
@@ -293,17 +260,13 @@ fn print_front<W: Write>(alloc: Global, out: &mut W, tag: u8, s: &[u8]) -> io::R
     }
 }
 
-// The number of two bytes, most significant first.
-fn two_bytes(high: u8, low: u8) -> usize {
-    (high as usize) * 256 + (low as usize)
-}
-
 // Reads and prints one vector; whether there was one.
 fn vector<R: Read, W: Write>(alloc: Global, input: &mut R, out: &mut W) -> io::Result<bool> {
     let head = read_front(alloc, input, 3)?;
     match head.as_slice() {
         [tag, high, low] => {
-            let bytes = read_front(alloc, input, two_bytes(*high, *low))?;
+            let size = u16::from_be_bytes([*high, *low]);
+            let bytes = read_front(alloc, input, usize::from(size))?;
             print_front(alloc, out, *tag, &bytes)?;
             Ok(true)
         }

@@ -1,14 +1,15 @@
-use mathlib.Core.Path.{refl, ◌∙◌}
 use native.Mathlib.Omega.{arith}
-use Rattle.bench_c.proofs.Rewriting.{rewrite_none, rewrite_turn}
+use Rattle.bench_c.proofs.Rewriting.{rewrite_none, rewrite_turn, rewrite_all}
 use Rattle.bench_c.proofs.rewrite.Goals as goal
 
-pub loop-i-init : goal.loop-i-init
-loop-i-init c = (omega arith, refl, rewrite_none _ _)
+pub loop-init : goal.loop-init
+loop-init c = rewrite_none _ _
 
-pub loop-i-preserved : goal.loop-i-preserved
-loop-i-preserved c =
+pub loop-preserved : goal.loop-preserved
+loop-preserved c = rewrite_turn c.args.t c.loop.counter _ c.loop.out _ c.loop.invariant c.write_trace-in-loop.ensures.buffer
+
+pub returns : goal.returns
+returns c =
     let w = c.write_trace in
-    let l = c.loop-i in
-    let a = c.args in
-    (omega arith, w.auto.out ∙ l.invariant.1, rewrite_turn a.t l._i _ l.out _ l.invariant.2 w.ensures.buffer)
+    rewrite_all c.args.t _ c.loop.counter c.args.out.now w.new.out c.loop.out w.result c.unwrap_or-size.result
+    (omega arith) w.ensures.answer w.ensures.buffer c.unwrap_or-size.ensures c.loop.invariant

@@ -7,6 +7,6 @@ pub returns : goal.returns
 returns c =
     rw (
       c.pow2.ensures,
-      c.from_byte.ensures,
+      c.from.ensures,
       last-fill c.args.b (slice_bytes c.args.s.now c.shared_slice_known-2-1.given) c.requires.0 c.requires.1,
     )

@@ -20,6 +20,6 @@ pub loop-j-preserved : goal.loop-j-preserved
 loop-j-preserved c =
     let a = c.args in (
       omega arith,
-      rw c.from_byte.ensures (read_bytes_turn a.s.now a.at c.loop-j.j c.loop-j.x (omega arith) c.loop-j.invariant.1),
-      rw c.from_byte.ensures (read_bytes_turn_lt c.loop-j.j c.loop-j.invariant.2 (omega (arith, c.shared_slice_known-in-loop-j-1.given (a.at + c.loop-j.j)))),
+      rw c.from.ensures (read_bytes_turn a.s.now a.at c.loop-j.j c.loop-j.x (omega arith) c.loop-j.invariant.1),
+      rw c.from.ensures (read_bytes_turn_lt c.loop-j.j c.loop-j.invariant.2 (omega (arith, c.shared_slice_known-in-loop-j-1.given (a.at + c.loop-j.j)))),
     )

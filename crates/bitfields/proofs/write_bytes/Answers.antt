@@ -1,4 +1,4 @@
-use mathlib.Core.Path.{◌≡◌, ◌∙◌}
+use mathlib.Core.Path.{◌≡◌, refl, ◌∙◌}
 use Prim.Native.Nat.{◌+◌}
 use native.Mathlib.Omega.{arith}
 use lib.ListN.{length-set}
@@ -10,8 +10,8 @@ loop-j-preserved c =
     let l = c.loop-j in
     let a = c.args in (
       omega arith,
-      write-bytes_turn a.s.now l.s a.at a.n a.x l.j c.to_byte.result (omega arith) (omega arith) l.invariant.1 c.to_byte.ensures,
-      length-set l.s (a.at + l.j) c.to_byte.result ∙ l.invariant.2,
+      write-bytes_turn a.s.now l.s a.at a.n a.x l.j _ (omega arith) (omega arith) l.invariant.1 refl,
+      length-set l.s (a.at + l.j) _ ∙ l.invariant.2,
     )
 
 pub returns : goal.returns

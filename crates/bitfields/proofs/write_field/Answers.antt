@@ -10,21 +10,21 @@ overflow_mul-x c =
     let bytes : Bytes c.args.s.now =
     slice_bytes _ c.slice_known-1.given in
     let a = c.args in
-    rw (c.pow2.ensures, c.from_byte.ensures) (omega (arith, joined_fits a.at a.w bytes c.requires))
+    rw (c.pow2.ensures, c.from.ensures) (omega (arith, joined_fits a.at a.w bytes c.requires))
 
 pub overflow_add-x : goal.overflow_add-x
 overflow_add-x c =
     let bytes : Bytes c.args.s.now =
     slice_bytes _ c.slice_known-1.given in
     let a = c.args in
-    rw (c.pow2.ensures, c.from_byte.ensures) (omega (arith, joined_fits a.at a.w bytes c.requires))
+    rw (c.pow2.ensures, c.from.ensures) (omega (arith, joined_fits a.at a.w bytes c.requires))
 
 pub overflow_mul-x-2 : goal.overflow_mul-x-2
 overflow_mul-x-2 c =
     let bytes : Bytes c.args.s.now =
     slice_bytes _ c.slice_known-1.given in
     let a = c.args in
-    rw (c.pow2-2.ensures, c.pow2.ensures, c.from_byte.ensures)
+    rw (c.pow2-2.ensures, c.pow2.ensures, c.from.ensures)
     (omega (arith, filled-fits a.at a.w bytes c.requires))
 
 pub returns : goal.returns
@@ -32,5 +32,5 @@ returns c =
     let bytes : Bytes c.args.s.now =
     slice_bytes _ c.slice_known-1.given in
     let a = c.args in
-    rw (c.write_window.ensures, c.pow2-2.ensures, c.pow2.ensures, c.from_byte.ensures)
+    rw (c.write_window.ensures, c.pow2-2.ensures, c.pow2.ensures, c.from.ensures)
     (put-field a.at a.w bytes c.requires)

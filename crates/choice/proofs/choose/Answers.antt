@@ -10,7 +10,7 @@ choose_row-requires c =
     let l = c.loop-i in
     let p = c.requires in
     let t = c.loop-i-test.true in
-    (p.0, omega (arith, t, p.4.order), p.1, p.2, p.3, may_choose_next l.invariant.1 (p.4.rows l.i t))
+    (omega (arith, t, p.1.order), p.0, may_choose_next l.invariant.1 (p.1.rows l.i t))
 
 pub loop-i-preserved : goal.loop-i-preserved
 loop-i-preserved c =

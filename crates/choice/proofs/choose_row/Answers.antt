@@ -4,12 +4,10 @@ use Rattle.choice.proofs.Chosen.{w_within, d_within}
 use Rattle.choice.proofs.choose_row.Goals as goal
 
 pub narrow-digit-requires : goal.narrow-digit-requires
-narrow-digit-requires c =
-    let p = c.requires in
-    d_within p.4 p.5 _ c.shifted-w.ensures _ c.select-d.ensures (omega arith)
+narrow-digit-requires c = d_within c.requires.2 _ c.shifted-w.ensures _ c.select-d.ensures (omega arith)
 
 pub residual_after-requires : goal.residual_after-requires
 residual_after-requires c =
     let p = c.requires in
     let w = c.shifted-w.ensures in
-    (p.4, w_within p.4 p.5 _ w, d_within p.4 p.5 _ w _ c.select-d.ensures (omega arith))
+    (c.args.units.in_range.1, w_within p.2 _ w, d_within p.2 _ w _ c.select-d.ensures (omega arith))

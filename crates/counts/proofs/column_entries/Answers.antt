@@ -3,18 +3,18 @@ use native.Mathlib.Omega.{arith}
 use Rattle.counts.proofs.Counting.{no_entries, entries_next, entries-few, entries_all}
 use Rattle.counts.proofs.column_entries.Goals as goal
 
-pub returns-then-hi-lo : goal.returns-then-hi-lo
-returns-then-hi-lo c =
+pub returns-then-span : goal.returns-then-span
+returns-then-span c =
+    let a = c.args in
     let s = c.requires.2 in
-    no_entries c.args.g.now c.args.j _ s.1
-    ∙ entries_all c.args.g.now c.args.j c.args.n c.args.lo (omega (arith, s.0)) (λ t a b. c.requires.3.1 t (omega (arith, c.if-hi-lo.true)) b)
+    no_entries a.g.now a.j _ s.1 ∙ entries_all a.g.now a.j a.n a.span.start (omega (arith, s.0)) (λ t l m. c.requires.3.1 t (omega (arith, c.if-span.true)) m)
 
 pub loop-i-init : goal.loop-i-init
 loop-i-init c =
-    let s = c.requires.2 in (
+    let a = c.args in (
       omega arith,
-      omega (arith, c.if-hi-lo.false, c.requires.3.0),
-      entries_next c.args.g.now c.args.j c.args.lo c.counted-arg-1.given (no_entries c.args.g.now c.args.j _ s.1) c.counted-c.ensures,
+      omega (arith, c.if-span.false, c.requires.3.0),
+      entries_next a.g.now a.j a.span.start c.counted-arg-1.given (no_entries a.g.now a.j _ c.requires.2.1) c.counted-c.ensures,
     )
 
 pub counted-c-requires-in-loop-i : goal.counted-c-requires-in-loop-i

@@ -1,15 +1,13 @@
+use native.Mathlib.Omega.{arith}
+use Rattle.job.proofs.Numbers.{number_positive}
 use Rattle.emethod_c.proofs.Jobs.{check_refused, check_accepted, order-kept}
 use Rattle.emethod_c.proofs.em_check_frame.Goals as goal
 
-pub returns-then-l-gt0 : goal.returns-then-l-gt0
-returns-then-l-gt0 c =
-    check_refused c.args.frame.now c.load-l.result c.load-l.ensures c.if-l-gt0.true c.scaled_answer.result c.scaled_answer.ensures
-
 pub count-requires : goal.count-requires
-count-requires c =
-    order-kept c.args.frame.now c.load-l.result c.load-l.ensures c.if-l-gt0.false
+count-requires c = order-kept c.args.frame.now _ c.in-Ok.ensures (omega arith)
 
-pub returns : goal.returns
-returns c =
-    check_accepted c.args.frame.now c.load-l.result c.load-l.ensures c.if-l-gt0.false
-    c.count.result c.scaled_answer-2.result c.count.ensures c.scaled_answer-2.ensures
+pub returns-in-Ok : goal.returns-in-Ok
+returns-in-Ok c = check_accepted c.args.frame.now _ c.in-Ok.ensures (omega arith) _ _ c.count.ensures c.accepted.ensures
+
+pub returns-in-Err : goal.returns-in-Err
+returns-in-Err c = check_refused c.args.frame.now _ c.in-Err.ensures (number_positive _) _ c.refused.ensures

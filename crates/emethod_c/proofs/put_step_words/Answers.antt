@@ -23,7 +23,7 @@ loop-x-preserved c =
         omega arith,
         ap length w.words-is ∙ simp length-set l.invariant.1,
         digit-put a.d.now a.words.now l.words c.if-x-n.words a.from a.to l.x a.n _ w.if-x-n.true l.invariant.2 w.words-is
-            (i64_kept w.widen.result w.widen.type_inv ∙ w.widen.ensures) w.widen-arg-1.given,
+            (i64_kept w.from.result w.from.type_inv ∙ w.from.ensures) w.from-arg-1.given,
       )
       | else-x-n w ↦ (
         omega arith,

@@ -1,4 +1,4 @@
-use mathlib.Core.Path.{◌≡◌, ◌∙◌}
+use mathlib.Core.Path.{◌≡◌}
 use Prim.Native.Nat.{◌+◌, ◌-◌, ◌*◌}
 use native.Mathlib.Omega.{arith}
 use lib.ListN.{length-set}
@@ -9,10 +9,8 @@ use Rattle.evaluator.proofs.Arrays.{replaced_two, replaced_last, replaced_all}
 use Rattle.evaluator.proofs.Horner.{may_read}
 use Rattle.evaluator.proofs.put_readings.Goals as goal
 
-pub two_readings-two-requires : goal.two_readings-two-requires
-two_readings-two-requires c =
-    let p = c.requires.0 in
-    (may_read p _ _ (omega arith) c.radix_by_shift-r.ensures, may_read p _ _ (omega arith) c.radix_by_shift-r.ensures)
+pub readings_from-two-requires : goal.readings_from-two-requires
+readings_from-two-requires c = (omega arith, λ t l. may_read c.requires.0 _ _ (omega arith) c.radix-r.ensures)
 
 pub loop-i-preserved : goal.loop-i-preserved
 loop-i-preserved c =
@@ -22,27 +20,26 @@ loop-i-preserved c =
       omega arith,
       simp length-set l.invariant.1,
       rw next
-          (replaced_two a.out.now a.h.n (reading c.radix_by_shift-r.result (digits_of a.digits.now) a.k) l.out (2 * l.i) _ (omega arith) c.requires.1 l.invariant.2
-          c.two_readings-two.ensures (i64_kept _ c.out-1.given) (i64_kept _ c.out-in-loop-i-1.given)),
+          (replaced_two a.out.now a.h.n (reading c.radix-r.result (digits_of a.digits.now) a.k) l.out (2 * l.i) _ (omega arith) c.requires.1 l.invariant.2
+          c.readings_from-two.ensures (i64_kept _ c.out-1.given) (i64_kept _ c.out-in-loop-i-1.given)),
     )
 
-pub reading-requires : goal.reading-requires
-reading-requires c =
-    may_read c.requires.0 _ _ (omega arith) c.radix_by_shift-r.ensures
+pub readings_from-last-requires : goal.readings_from-last-requires
+readings_from-last-requires c = (omega arith, λ t l. may_read c.requires.0 _ _ (omega arith) c.radix-r.ensures)
 
 pub returns-then-n-eq1 : goal.returns-then-n-eq1
 returns-then-n-eq1 c =
     let l = c.loop-i in
-    let r = c.radix_by_shift-r in
+    let r = c.radix-r in
     let a = c.args in
     let last : 2 * l.i ≡ a.h.n - 1 = omega arith in
     rw r.ensures at
     (replaced_last a.out.now a.h.n (reading r.result (digits_of a.digits.now) a.k) l.out (a.h.n - 1) _ (omega arith) (omega arith) c.requires.1 (rw last at l.invariant.2)
-    (i64_kept _ c.reading.type_inv ∙ c.reading.ensures))
+    c.readings_from-last.ensures (i64_kept _ c.out-then-n-eq1-1.given))
 
 pub returns-else-n-eq1 : goal.returns-else-n-eq1
 returns-else-n-eq1 c =
     let l = c.loop-i in
-    let r = c.radix_by_shift-r in
+    let r = c.radix-r in
     let a = c.args in
     rw r.ensures at (replaced_all a.out.now a.h.n (reading r.result (digits_of a.digits.now) a.k) l.out (2 * l.i) (omega arith) l.invariant.2)

@@ -1,4 +1,6 @@
--- Too little room, or the text that was put.
+-- Too little room, or the text that was put. At the end the lent buffer is the page's.
+use mathlib.Core.Path.{sym, ◌∙◌}
+use Rattle.std.proofs.Common.{rules}
 use native.Mathlib.Omega.{arith}
 use Rattle.printout.proofs.Answers.{print_refused, print_accepted}
 use Rattle.printout.proofs.print_frame.Goals as goal
@@ -12,5 +14,7 @@ returns-then-out-lt-TEXT_ROOM c =
 pub returns : goal.returns
 returns c =
     let a = c.args in
-    let both = print_accepted a.s.now a.out.now c.put_frame_text.result _ (omega (arith, c.if-out-lt-TEXT_ROOM.false)) c.put_frame_text.ensures.value c.put_frame_text.ensures.out_after in
-    record { answer = both.0; buffer = both.1 }
+    let page = c.put_frame_text.new.page in
+    let p = c.put_frame_text.ensures.put in
+    let both = print_accepted a.s.now a.out.now page.at page.out.now (omega (arith, c.if-out-lt-TEXT_ROOM.false)) (omega (arith, p.ends)) p.holds in
+    record { answer = both.0; buffer = sym (sym both.1 ∙ search rules) }

@@ -1,14 +1,14 @@
 -- The kind, the radix and the other fields.
 use native.Mathlib.Omega.{arith}
 use Rattle.text.specs.Text.{line_end}
-use Rattle.text.proofs.Putting.{put_then, length-decimal}
+use Rattle.text.proofs.Putting.{write_then, length-decimal}
 use Rattle.printout.proofs.put_header_line.Goals as goal
 
-pub put_decimal-a-requires : goal.put_decimal-a-requires
-put_decimal-a-requires c = omega (arith, length-decimal c.args.h.kind)
+pub decimal-requires : goal.decimal-requires
+decimal-requires c = omega (arith, length-decimal c.args.h.kind)
 
-pub put_natural_item-b-requires : goal.put_natural_item-b-requires
-put_natural_item-b-requires c =
+pub natural_item-requires : goal.natural_item-requires
+natural_item-requires c =
     let h = c.args.h in
     omega (arith, length-decimal h.kind, length-decimal c.radix.result)
 
@@ -20,4 +20,4 @@ put_fields-requires c =
 pub returns : goal.returns
 unfolding line_end
 returns c =
-    rw (← c.radix.ensures) (put_then c.put_decimal-a.ensures (put_then c.put_natural_item-b.ensures c.put_fields.ensures))
+    rw (← c.radix.ensures) (write_then c.decimal.ensures (write_then c.natural_item.ensures c.put_fields.ensures))

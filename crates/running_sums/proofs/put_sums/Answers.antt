@@ -11,13 +11,13 @@ loop-j-init c = (omega arith, none-put)
 
 pub add_column-requires : goal.add_column-requires
 add_column-requires c =
-    may_add c.loop-j.invariant.1 c.requires c.loop-j-test.true _ c.widen.ensures
+    may_add c.loop-j.invariant.1 c.requires c.loop-j-test.true _ c.from.ensures
 
 pub put_column-requires : goal.put_column-requires
 put_column-requires c =
     let digit : ℤ =
     at c.args.d.now c.loop-j.j in
-    may-put-column c.loop-j.invariant.1 c.requires c.loop-j-test.true _ c.widen.ensures (not_skipped digit c.if-digit-ne0.true)
+    may-put-column c.loop-j.invariant.1 c.requires c.loop-j-test.true _ c.from.ensures (not_skipped digit c.if-digit-ne0.true)
 
 pub overflow_add-to-then-digit-ne0 : goal.overflow_add-to-then-digit-ne0
 overflow_add-to-then-digit-ne0 c =
@@ -33,7 +33,7 @@ loop-j-preserved c =
       | then-digit-ne0 w ↦ (
         omega (arith, c.loop-j-test.true),
         rw (w.out-is, w.s-is, w.to-is)
-            (column-put l.invariant.1 c.requires c.loop-j-test.true _ w.widen.ensures (not_skipped digit w.if-digit-ne0.true) w.add_column.ensures w.put_column.ensures),
+            (column-put l.invariant.1 c.requires c.loop-j-test.true _ w.from.ensures (not_skipped digit w.if-digit-ne0.true) w.add_column.ensures w.put_column.ensures),
       )
       | else-digit-ne0 w ↦ (
         omega (arith, c.loop-j-test.true),

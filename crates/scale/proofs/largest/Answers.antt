@@ -11,11 +11,11 @@ pub loop-i-preserved : goal.loop-i-preserved
 loop-i-preserved c =
     let l = c.loop-i in
     let z = c.args.z.now in
-    let g = c.magnitude-arg-1.given in
-    let a = c.magnitude-a in (
+    let g = c.unsigned_abs-arg-1.given in
+    let a = c.unsigned_abs-a in (
       omega arith,
       elim c.if-top-a.branch [
-        | then-top-a w ↦ peak_raised l.i z l.top a.result l.invariant.1 g a.ensures c.if-top-a.top w.if-top-a.true w.top-is
-        | else-top-a w ↦ peak-kept l.i z l.top a.result l.invariant.1 g a.ensures c.if-top-a.top w.if-top-a.false w.top-is
+        | then-top-a w ↦ peak_raised l.i z l.top a.result l.invariant.1 g a.ensures.value c.if-top-a.top w.if-top-a.true w.top-is
+        | else-top-a w ↦ peak-kept l.i z l.top a.result l.invariant.1 g a.ensures.value c.if-top-a.top w.if-top-a.false w.top-is
       ],
     )

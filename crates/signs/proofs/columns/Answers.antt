@@ -4,4 +4,4 @@ use Rattle.signs.proofs.Table.{tabulated_none}
 use Rattle.signs.proofs.columns.Goals as goal
 
 pub loop-j-init : goal.loop-j-init
-loop-j-init c = (omega arith, tabulated_none _ _, found_none _ _ _ c.requires.2)
+loop-j-init c = (omega arith, tabulated_none _ _, found_none _ _ _ c.told-entries)

@@ -17,12 +17,12 @@ loop-j-init c = (omega arith, sums_none _ _ _)
 pub add_column-requires : goal.add_column-requires
 add_column-requires c =
     let l = c.loop-j in
-    may-add-next c.requires.0 c.requires.1 c.loop-j-test.true l.invariant.1 _ c.widen.ensures (to_last c.args.n c.args.g.now l.j)
+    may-add-next c.requires.0 c.requires.1 c.loop-j-test.true l.invariant.1 _ c.from.ensures (to_last c.args.n c.args.g.now l.j)
 
 pub loop-j-preserved : goal.loop-j-preserved
 loop-j-preserved c =
     let l = c.loop-j in
-    (omega arith, sums-more c.requires.0 c.requires.1 c.loop-j-test.true l.invariant.1 _ c.widen.ensures (from_first c.args.n c.args.g.now l.j c.loop-j-test.true) (to_last c.args.n c.args.g.now l.j) c.add_column.ensures)
+    (omega arith, sums-more c.requires.0 c.requires.1 c.loop-j-test.true l.invariant.1 _ c.from.ensures (from_first c.args.n c.args.g.now l.j c.loop-j-test.true) (to_last c.args.n c.args.g.now l.j) c.add_column.ensures)
 
 pub returns : goal.returns
 returns c =

@@ -6,21 +6,23 @@ use lib.ListN.{replicate}
 use Rattle.integers.proofs.Stores.{stores-zero}
 use Rattle.job.specs.Header.{count}
 use Rattle.job.specs.Kind.{kind_of}
+use Rattle.job.specs.Kinds.{kind_named}
 use Rattle.job.proofs.Limits.{count_most}
 use Rattle.system.specs.System.{right_side_of}
-use Rattle.system.proofs.Numbers.{right_read, right_place-most}
+use Rattle.system.proofs.Numbers.{kind_is, right_read, right_place-most}
 use Rattle.system.proofs.Arrays.{stores-more, vector_stored}
 use Rattle.system.proofs.right_sides.Goals as goal
 
 pub loop-i-init : goal.loop-i-init
-loop-i-init c = (
-  omega arith,
-  c.requires.0.order_least,
-  c.right_place-place.ensures,
-  c.right_stride-stride.ensures,
-  stores-more (replicate 16 (pos 0)) (λ t. t) (right_side_of c.args.h c.args.v.now) 0 (replicate 16 (pos 0)) _ (sym (stores-zero _ _ _))
-      (right_read (kind_of c.args.h.kind) c.args.h.n c.args.v.now 0 c.right_place.result c.z-1.given c.right_place.ensures),
-)
+loop-i-init c =
+    let k : kind_of c.args.h.kind ≡ kind_named c.unwrap-kind.result = kind_is _ c.args.h.kind c.of.ensures c.unwrap-kind.ensures in (
+      omega arith,
+      c.requires.0.order_least,
+      rw k c.right_place-place.ensures,
+      rw k c.right_stride-stride.ensures,
+      stores-more (replicate 16 (pos 0)) (λ t. t) (right_side_of c.args.h c.args.v.now) 0 (replicate 16 (pos 0)) _ (sym (stores-zero _ _ _))
+          (right_read (kind_of c.args.h.kind) c.args.h.n c.args.v.now 0 c.right_place.result c.z-1.given (rw k c.right_place.ensures)),
+    )
 
 pub offset_bounds-v-place : goal.offset_bounds-v-place
 offset_bounds-v-place c =

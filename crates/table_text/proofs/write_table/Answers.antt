@@ -1,4 +1,6 @@
--- Too little room, or the text that was put.
+-- Too little room, or the text that was put. At the end the lent buffer is the page's.
+use mathlib.Core.Path.{sym, ◌∙◌}
+use Rattle.std.proofs.Common.{rules}
 use native.Mathlib.Omega.{arith}
 use Rattle.table_text.proofs.Answers.{table-refused, table-accepted}
 use Rattle.table_text.proofs.write_table.Goals as goal
@@ -9,5 +11,5 @@ returns-then-out-lt-TABLE_ROOM c = let both = table-refused c.args.out.now (omeg
 
 pub returns : goal.returns
 returns c =
-    let both = table-accepted c.args.out.now (omega (arith, c.if-out-lt-TABLE_ROOM.false)) c.put_table.ensures in
-    record { answer = both.0; buffer = both.1 }
+    let both = table-accepted c.args.out.now (omega (arith, c.if-out-lt-TABLE_ROOM.false)) c.put_table.ensures.put in
+    record { answer = both.0; buffer = sym (sym both.1 ∙ search rules) }

@@ -6,4 +6,4 @@ use Rattle.trace.proofs.eights.digit_bits.Goals as goal
 
 pub returns : goal.returns
 returns c =
-    digit_bits_are c.args.z c.widen.result c.ranges.z.sfits (c.widen.ensures ∙ i8_kept _ c.ranges.z.sfits) c.to_unsigned.result c.to_unsigned.ensures
+    digit_bits_are c.args.z c.from.result c.ranges.z.sfits (c.from.ensures ∙ i8_kept _ c.ranges.z.sfits) c.to_unsigned.result c.to_unsigned.ensures

@@ -1,8 +1,0 @@
--- The invariant: the columns below j have their row.
-use Prim.Native.Nat.{◌≤◌}
-use Rattle.spans.specs.Inner.{Start}
-use Rattle.spans.proofs.ColumnSpan.{Found}
-use Rattle.spans.proofs.column_starts.Given as goal
-
-abbrev pub invariant-loop-j : goal.invariant-loop-j
-invariant-loop-j l = (l.j ≤ l.n) × Found 0 (Start l.n l.g) l.lo l.j

@@ -1,5 +1,0 @@
--- By one digit or more; with more, n / 10 is below n.
-use Rattle.text.proofs.+put_decimal.Given as goal
-
-abbrev pub decreases-put_decimal : goal.decreases-put_decimal
-decreases-put_decimal l = l.n
