@@ -79,7 +79,8 @@ fn check_advance(s: &State, budget: u64) -> Result<(), Refused>
 }
 
 // As many steps as the budget allows and as are left: the state that they leave, and what was made. Refused, the
-// state is as it went in.
+// state is as it went in. Kept apart from its callers it would copy the state twice more.
+#[inline]
 pub fn advance(s: State, budget: u64) -> (State, Result<Steps, Refused>)
     ensures { advance_answer result ≡ advanced s budget }
 {

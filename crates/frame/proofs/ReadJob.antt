@@ -71,7 +71,7 @@ module _ (s : List ℕ) (z : List ℤ) {h : Header} {v : List ℤ} (u : (record 
   unfolding unpack_answer
   no_refusal = sym (ap (λ (a : FrameRead). a.refusal) u.0)
 
-  unpack_header : h ≡ header_of s
+  pub unpack_header : h ≡ header_of s
   unfolding unpack_answer
   unpack_header = ap (λ (a : FrameRead). a.header) u.0 ∙ rw no_refusal refl
 

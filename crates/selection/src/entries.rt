@@ -7,7 +7,7 @@ pub const ESTIMATES: usize = 1024;
 
 // Each entry is the whole number nearest to its estimate, a tie away from zero. That of the estimate e stands
 // at e + 512; beside it stands e.
-const TABLE: [i8; ESTIMATES] = [
+pub(crate) const TABLE: [i8; ESTIMATES] = [
     -16, // -512/32
     -16, // -511/32
     -16, // -510/32
@@ -1034,8 +1034,7 @@ const TABLE: [i8; ESTIMATES] = [
     16, // 511/32
 ];
 
-// Fills a caller's array with the table, for steps, which lend it on: used at each choice, the table would be
-// made each time, and given by value it would be copied once more.
+// Fills a caller's array with the table.
 pub fn fill_table(t: &mut [i8; ESTIMATES])
     ensures { t.new ≡ selection_table }
 {

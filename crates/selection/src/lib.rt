@@ -11,6 +11,7 @@ ghost use Rattle.selection.specs.Inner.{lesser, greater};
 
 mod entries; // entries.rt: the table
 
+use entries::TABLE;
 pub use entries::{ESTIMATES, fill_table, table};
 
 // The estimate of w in 32nds of a unit: w cut down to five fraction bits. A shift rounds downward, for a
@@ -47,18 +48,24 @@ fn held_back(entry: i64, p: usize) -> i64
     lesser(raised, most)
 }
 
-// The table, as steps lend it to each choice: used at each choice, the array would be made each time.
+// An array that is the table, as steps lend it to each choice: used at each choice, the constant would be made
+// each time. It is lent and not held, so that no call makes or copies its entries.
 #[derive(Drop)]
-pub struct Choices {
-    entries: [i8; ESTIMATES],
-    ghost is_table: { entries ≡ selection_table },
+pub struct Choices<'a> {
+    entries: &'a [i8; ESTIMATES],
+    ghost is_table: { entries.now ≡ selection_table },
 }
 
-impl Choices {
-    // A value for the steps of one call.
+impl<'a> Choices<'a> {
+    // The library's own table.
     pub fn new() -> Self {
-        let mut entries = [0i8; ESTIMATES];
-        fill_table(&mut entries);
+        Choices { entries: &TABLE }
+    }
+
+    // A caller's array that is the table.
+    pub fn of(entries: &'a [i8; ESTIMATES]) -> Self
+        requires { entries.now ≡ selection_table }
+    {
         Choices { entries }
     }
 

@@ -137,7 +137,7 @@ module _ (s : List ℕ) where
           count = rw (add-one k, ← y.1) (next-count ∙ rw y.0 (omega arith));
         }
 
-  all_agree : {k from : ℕ} → Agreed s k from → estimate_count ≤ k → ◌≡◌ {A = Compared} (record { same = eqb (length s) from; agreeing = estimate_count }) (compared s)
+  pub all_agree : {k from : ℕ} → Agreed s k from → estimate_count ≤ k → ◌≡◌ {A = Compared} (record { same = eqb (length s) from; agreeing = estimate_count }) (compared s)
   unfolding compared agreeing
   all_agree {k} {from} a h =
       let none : drop k selection_table ≡ [] = drop_of_length-le selection_table {i = k} (omega (arith, table-length)) in

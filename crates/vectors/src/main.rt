@@ -219,16 +219,17 @@ fn all_additions(s: State) -> usize {
     }
 }
 
-// The line of a job: the additions of each step, one advance a step. One advance of all steps counts as many.
+// The line of a job: the additions of each step, one advance a step, asked for after the last step too. One
+// advance of all steps counts as many.
 fn show_step_additions<W: Write>(out: &mut W, s: State) -> io::Result<()> {
     let mut sum: usize = 0;
     let mut t = s;
     for _ in 0..ALL_STEPS {
-        let (next, Ok(steps)) = emethod::advance(t, 1) else {
-            break;
-        };
-        print_item(out, steps.additions, next.k)?;
-        sum = sum.saturating_add(steps.additions);
+        let (next, answer) = emethod::advance(t, 1);
+        if let Ok(steps) = answer {
+            print_item(out, steps.additions, next.k)?;
+            sum = sum.saturating_add(steps.additions);
+        }
         t = next;
     }
     print_newline(out)?;
