@@ -321,8 +321,7 @@ fn signs_pay(g: &[i64; ENTRIES], n: usize, p: usize, made: usize) -> bool
     g[16 + (n - 1)] != 0
 }
 
-// Makes the steps. The selection table is made here, once for all of them. For callers that know their state
-// to pass 24.
+// Makes the steps. The selection table is lent to all of them. For callers that know their state to pass 24.
 pub fn make_steps(
     h: Header,
     scale: usize,
